@@ -1,30 +1,18 @@
 -- The paths that are asked for and absent, by the names from the top down to them.
-use Rattle.std.proofs.Common.{◌≡◌, ◌≢◌, ℕ, ◌==◌, Bool, true, false, not, cond, List, [], ◌∷◌, ◌++◌, map, refl, sym, ◌∙◌, ap}
-use Rattle.std.proofs.Common.{subst, inl, inr, ◌⊎◌, Option, Some, None, append-nil, bytes_eq, eq-eqb}
-use Rattle.std.specs.declared.cmp.Ordering.TheVariants.{Less}
-use Rattle.std.specs.List.{filter, filter_map, cons_option, list_any, onto_first, AllByRecursion}
-use Rattle.std.specs.List.Sorted.{IsStrictlySortedBy}
-use Rattle.std.specs.Option.{is_some}
-use Rattle.std.specs.Ordering.{is_lt}
-use Rattle.std.proofs.lemmas.Bool.{eqb-true, or_parts, not-true}
-use Rattle.std.proofs.lemmas.List.{append_cancel_left}
-use Rattle.std.proofs.lemmas.List.Splits.{slice_split-cons_yes, slice_split-cons_no}
+use Rattle.std.proofs.Common.{◌≡◌, ◌≢◌, ℕ, ◌==◌, Bool, true, false, not, cond, List, [], ◌∷◌, ◌++◌, map, refl, sym, ◌∙◌, ap, subst, inl}
+use Rattle.std.proofs.{Common.{inr, ◌⊎◌, Option, Some, None, append-nil, bytes_eq, eq-eqb}, lemmas.Bool.{eqb-true, or_parts, not-true}}
+use Rattle.std.proofs.lemmas.List.{append_cancel_left, Splits.{slice_split-cons_yes, slice_split-cons_no}}
+use Rattle.std.specs.{declared.cmp.Ordering.TheVariants.Less, List.{filter, filter_map, cons_option, list_any, onto_first, AllByRecursion}}
+use Rattle.std.specs.{List.Sorted.IsStrictlySortedBy, Option.is_some, Ordering.is_lt}
 use Rattle.lc_board.proofs.Weights.{each-map}
-use Rattle.lc_glob.specs.Bytes.{slash}
-use Rattle.lc_glob.specs.Path.{path_in, segments_of}
+use Rattle.lc_glob.specs.{Bytes.slash, Path.{path_in, segments_of}}
 use Rattle.lc_glob.proofs.Naming.{segments_apart, some_segment}
-use Rattle.lc_level.specs.Answers.{Item, entry_of}
-use Rattle.lc_level.specs.Narrowing.{after, stands_below, rest_from, put_among, each_once, rests, leads_to, absent_from}
-use Rattle.lc_level.proofs.AskedPaths.{rest_is}
-use Rattle.lc_level.proofs.EachOnce.{once_in_order}
-use Rattle.lc_level.proofs.PathOrder.{not_itself}
-use Rattle.lc_level.proofs.WellFormed.{bytes_other, clash}
-use Rattle.lc_tree.specs.ByteOrder.{bytes_cmp, AreInOrder}
-use Rattle.lc_tree.specs.Paths.{names_of_path}
-use Rattle.lc_walk.proofs.Distinct.{Distinct}
-use Rattle.lc_walk.proofs.Elements.{In}
+use Rattle.lc_level.specs.{Answers.{Item, entry_of}, Narrowing.{after, stands_below, rest_from, put_among, each_once, rests, leads_to}}
+use Rattle.lc_level.specs.Narrowing.{absent_from}
+use Rattle.lc_level.proofs.{AskedPaths.rest_is, EachOnce.once_in_order, PathOrder.not_itself, WellFormed.{bytes_other, clash}}
 use Rattle.lc_level.proofs.PathNames.{one_name}
-use Rattle.lc_walk.proofs.TakingPart.{each_filter, each_passes}
+use Rattle.lc_tree.specs.{ByteOrder.{bytes_cmp, AreInOrder}, Paths.names_of_path}
+use Rattle.lc_walk.proofs.{Distinct.Distinct, Elements.In, TakingPart.{each_filter, each_passes}}
 
 -- ---- paths seen from a directory
 

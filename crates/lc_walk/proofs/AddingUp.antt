@@ -1,21 +1,12 @@
 -- Rows in order, of which those of one key are made one row.
 use Rattle.std.proofs.Common.{◌≡◌, ℕ, ◌+◌, ◌<◌, Bool, true, false, cond, List, [], ◌∷◌, map, get_or, refl, sym, ◌∙◌, ap, arith, subst}
-use Rattle.std.specs.Bool.{MatchBool}
-use Rattle.std.specs.List.{sum_by, dedup, dedup_from}
-use Rattle.std.specs.List.Retain.{DedupsFrom, IsDeduped}
-use Rattle.std.specs.List.Sorted.{IsPermutation, IsSorted, IsSortedByKey, IsStrictlySortedBy}
-use Rattle.std.specs.declared.cmp.Ordering.TheVariants.{Equal}
-use Rattle.std.proofs.lemmas.List.{get_or-map, length-map}
-use Rattle.std.proofs.lemmas.List.Sums.{sum_by-cons}
-use Rattle.std.proofs.lemmas.List.Elements.{All-cons, All-tail}
-use Rattle.std.proofs.lemmas.List.Kept.{IsStrictlySortedBy-dedup}
-use Rattle.lc_walk.specs.Key.{Key, key_cmp, same_key}
-use Rattle.lc_walk.specs.TallyRows.{TallyRowModel, sums_of_rows, HasSumsOf, AddsUp, IsAbsorbed}
-use Rattle.lc_walk.specs.Sums.{plus, no_files, IsInRange}
-use Rattle.lc_walk.specs.declared.tally.sums.Sums.{Sums}
-use Rattle.lc_walk.proofs.Keys.{key_cmp_total, equal_if}
-use Rattle.lc_walk.proofs.Totals.{same_totals}
-use Rattle.lc_walk.proofs.RowSums.{gives, SeesKeys, AddsAlike, has_sums, has_same, has_further, has_both, has_permuted, same_sums}
+use Rattle.std.proofs.lemmas.List.{get_or-map, length-map, Sums.sum_by-cons, Elements.{All-cons, All-tail}, Kept.IsStrictlySortedBy-dedup}
+use Rattle.std.specs.{Bool.MatchBool, List.{sum_by, dedup, dedup_from, Retain.{DedupsFrom, IsDeduped}}}
+use Rattle.std.specs.{List.Sorted.{IsPermutation, IsSorted, IsSortedByKey, IsStrictlySortedBy}, declared.cmp.Ordering.TheVariants.Equal}
+use Rattle.lc_walk.specs.{Key.{Key, key_cmp, same_key}, TallyRows.{TallyRowModel, sums_of_rows, HasSumsOf, AddsUp, IsAbsorbed}, Sums.plus}
+use Rattle.lc_walk.specs.{Sums.{no_files, IsInRange}, declared.tally.sums.Sums.Sums}
+use Rattle.lc_walk.proofs.{Keys.{key_cmp_total, equal_if}, Totals.same_totals, RowSums.{gives, SeesKeys, AddsAlike, has_sums, has_same}}
+use Rattle.lc_walk.proofs.RowSums.{has_further, has_both, has_permuted, same_sums}
 
 -- the sums over some of the rows are in range where those over all are
 range_of_part : (a b s : Sums) → s ≡ plus a b → IsInRange s → (c : Sums) → c ≡ b → IsInRange c

@@ -1,23 +1,15 @@
 -- From what each worker has run to what all passes have done.
 use Rattle.std.proofs.Common.{◌≡◌, ℕ, zero, suc, ◌<◌, List, [], ◌∷◌, ◌++◌, length, map, slice_get, slice_index_or, refl, sym, ◌∙◌, ap}
-use Rattle.std.proofs.Common.{subst, Option, Some, None, option_map, arith, append-nil}
+use Rattle.std.proofs.{Common.{subst, Option, Some, None, option_map, arith, append-nil}, lemmas.Option.slice_get_within}
+use Rattle.std.proofs.lemmas.Option.{get_or_from_slice_get, slice_get-get_or}
 use Rattle.std.specs.List.{flat_map}
-use Rattle.std.proofs.lemmas.Option.{slice_get_within, get_or_from_slice_get, slice_get-get_or}
 use Rattle.lc_board.specs.Pass.{Pass, new_pass}
-use Rattle.lc_level.specs.Answers.{Answers}
-use Rattle.lc_level.specs.Job.{JobModel}
-use Rattle.lc_walk.specs.Lawful.{Asked}
-use Rattle.lc_walk.specs.Passes.{HaveWorked}
-use Rattle.lc_walk.specs.Running.{HasRun, AllOver, TalliesAll}
-use Rattle.lc_walk.specs.Serving.{EndsAs}
-use Rattle.lc_walk.specs.Tally.{TallyModel, CountedFile, StandsFor}
-use Rattle.lc_walk.specs.TreeOfRows.{numbers_below}
-use Rattle.lc_walk.specs.WorkerResults.{AreLawful, FoundOver, TalliesFor, files_given, files_of_pass}
-use Rattle.lc_walk.specs.declared.row.Row.{Row}
-use Rattle.lc_walk.specs.declared.worker.StopReason.TheVariants.{Over}
-use Rattle.lc_walk.specs.declared.worker.WorkerResult.{WorkerResult}
-use Rattle.lc_walk.proofs.AnswersOfClose.{mapped}
-use Rattle.lc_walk.proofs.Working.{lawful_since}
+use Rattle.lc_level.specs.{Answers.Answers, Job.JobModel}
+use Rattle.lc_walk.specs.{Lawful.Asked, Passes.HaveWorked, Running.{HasRun, AllOver, TalliesAll}, Serving.EndsAs, Tally.TallyModel}
+use Rattle.lc_walk.specs.{Tally.{CountedFile, StandsFor}, TreeOfRows.numbers_below, WorkerResults.{AreLawful, FoundOver, TalliesFor}}
+use Rattle.lc_walk.specs.{WorkerResults.{files_given, files_of_pass}, declared.row.Row.Row}
+use Rattle.lc_walk.specs.declared.worker.{StopReason.TheVariants.Over, WorkerResult.WorkerResult}
+use Rattle.lc_walk.proofs.{AnswersOfClose.mapped, Working.lawful_since}
 
 mapped_at : {A B : Type 0} (f : A → B) (xs : List A) (i : ℕ) → slice_get (map f xs) i ≡ option_map f (slice_get xs i)
 mapped_at f [] i = refl

@@ -1,45 +1,23 @@
 -- From what the board's close, the workers and `assemble` ensure to what a walk answers.
-use Rattle.std.proofs.Common.{◌≡◌, ◌≢◌, ℕ, suc, ◌≤◌, Bool, true, false, List, [], ◌∷◌, length, slice_get, refl, sym, ◌∙◌, ap}
-use Rattle.std.proofs.Common.{arith, subst, Some, Result, Ok, Err, map, ◌⊎◌, inl, inr, ◌<◌}
+use Rattle.std.proofs.Common.{◌≡◌, ◌≢◌, ℕ, suc, ◌≤◌, Bool, true, false, List, [], ◌∷◌, length, slice_get, refl, sym, ◌∙◌, ap, arith}
+use Rattle.std.proofs.{Common.{subst, Some, Result, Ok, Err, map, ◌⊎◌, inl, inr, ◌<◌}, lemmas.Bool.cases_lt}
 use Rattle.std.specs.List.{list_any}
-use Rattle.lc_board.specs.State.{Status, Absent, Open, Claimed, Returned, Faulted, status}
-use Rattle.lc_board.specs.Part.{part}
-use Rattle.lc_board.specs.LegalHistory.{IsOver, posts_under}
-use Rattle.lc_board.specs.Pass.{Pass}
-use Rattle.lc_board.specs.ClosedBoard.{Promises, Settled, IsUnended, RefusesClose}
-use Rattle.lc_board.specs.declared.event.Event.TheVariants.{Over}
-use Rattle.lc_board.specs.declared.answers.CloseFault.{CloseFault}
-use Rattle.lc_board.specs.declared.answers.CloseFault.TheVariants as close
-use Rattle.lc_board.specs.declared.answers.Ended.{Ended}
-use Rattle.lc_board.specs.declared.answers.Ended.TheVariants as ended
-use Rattle.lc_board.proofs.OverHistories.{over_stays}
-use Rattle.lc_walk.specs.Tally.{TallyModel, StandsFor}
-use Rattle.lc_walk.specs.declared.report.Report.{Report}
-use Rattle.lc_level.specs.Answers.{Answers}
-use Rattle.lc_level.specs.Job.{JobModel}
-use Rattle.lc_walk.specs.Rows.{row_of, job_of}
-use Rattle.lc_walk.specs.Lawful.{Asked, Says, IsCause}
-use Rattle.lc_walk.specs.Assembled.{IsBrokenBy, Assembles}
-use Rattle.lc_walk.specs.WorkerResults.{AreLawful, files_of_passes, FoundOver}
-use Rattle.lc_walk.specs.BoardAnswers.{SomeRows, WalkAnswers}
-use Rattle.lc_walk.specs.CloseFaults.{fault_of_close}
-use Rattle.lc_board.specs.WordClose.{words_promises}
-use Rattle.lc_level.specs.TreeAnswers.{MayAnswer}
+use Rattle.lc_board.specs.{State.{Status, Absent, Open, Claimed, Returned, Faulted, status}, Part.part, LegalHistory.{IsOver, posts_under}}
+use Rattle.lc_board.specs.{Pass.Pass, ClosedBoard.{Promises, Settled, IsUnended, RefusesClose}, declared.event.Event.TheVariants.Over}
+use Rattle.lc_board.specs.{declared.answers.{CloseFault.CloseFault, Ended.Ended}, WordClose.words_promises}
+use Rattle.lc_board.proofs.{OverHistories.over_stays, PostedNumbers.within}
+use Rattle.lc_walk.specs.{Tally.{TallyModel, StandsFor}, declared.{report.Report.Report, options.Options.Options}}
+use Rattle.lc_walk.specs.declared.broken_cause.BrokenCause.{BrokenCause, TheVariants.{TooManyDirs, TooDeep}}
+use Rattle.lc_walk.specs.{declared.{row.Row.{Row, TheVariants.{Listed, Faulted, Broken}}, walk_fault.WalkFault.WalkFault}, Rows.row_of}
+use Rattle.lc_walk.specs.{Rows.job_of, Lawful.{Asked, Says, IsCause}, Assembled.{IsBrokenBy, Assembles}, WorkerResults.AreLawful}
+use Rattle.lc_walk.specs.{WorkerResults.{files_of_passes, FoundOver}, BoardAnswers.{SomeRows, WalkAnswers}, CloseFaults.fault_of_close}
+use Rattle.lc_walk.specs.{WalkOptions.{asked_by, top_of}, Walks.Walks}
+use Rattle.lc_level.specs.{Answers.Answers, Job.JobModel, TreeAnswers.MayAnswer}
 use Rattle.lc_tree.specs.Trees.{Listings, Contents}
-use Rattle.lc_walk.specs.WalkOptions.{asked_by, top_of}
-use Rattle.lc_walk.specs.Walks.{Walks}
-use Rattle.lc_walk.specs.declared.options.Options.{Options}
-use Rattle.lc_walk.specs.declared.broken_cause.BrokenCause.{BrokenCause}
-use Rattle.lc_walk.specs.declared.broken_cause.BrokenCause.TheVariants.{TooManyDirs, TooDeep}
-use Rattle.lc_walk.specs.declared.row.Row.{Row}
-use Rattle.lc_walk.specs.declared.row.Row.TheVariants.{Listed, Faulted, Broken}
-use Rattle.lc_walk.specs.declared.walk_fault.WalkFault.{WalkFault}
+use Rattle.lc_walk.proofs.{Composed.{some_rows, answers, walked, lawful_here, report_of_walk}, Placing.placed, Listings.got_here}
+use Rattle.lc_board.specs.declared.answers.CloseFault.TheVariants as close
+use Rattle.lc_board.specs.declared.answers.Ended.TheVariants as ended
 use Rattle.lc_walk.specs.declared.walk_fault.WalkFault.TheVariants as fault
-use Rattle.lc_walk.proofs.Composed.{some_rows, answers, walked, lawful_here, report_of_walk}
-use Rattle.std.proofs.lemmas.Bool.{cases_lt}
-use Rattle.lc_board.proofs.PostedNumbers.{within}
-use Rattle.lc_walk.proofs.Placing.{placed}
-use Rattle.lc_walk.proofs.Listings.{got_here}
 
 -- what a Broken row says of its cause
 cause_said : (ask : Asked) (f : Bool) (c : BrokenCause) (e : Ended Row) (a : Answers) (posts : List (ℕ × JobModel)) → Says ask f e a posts

@@ -1,15 +1,9 @@
 -- Rows of which none is Broken for any cause are whole.
 use Rattle.std.proofs.Common.{◌≡◌, ℕ, List, slice_get, Some, refl}
 use Rattle.lc_board.specs.declared.answers.Ended.{Ended}
-use Rattle.lc_walk.specs.Rows.{row_of, IsWhole}
-use Rattle.lc_walk.specs.ClosedWalks.{AreWhole}
-use Rattle.lc_walk.specs.Assembled.{IsBrokenBy, RefusesRows}
-use Rattle.lc_walk.specs.Links.{RefusesTree, fault_of_tree}
-use Rattle.lc_walk.specs.declared.broken_cause.BrokenCause.{BrokenCause}
-use Rattle.lc_walk.specs.declared.broken_cause.BrokenCause.TheVariants.{Memory, TooManyDirs, TooDeep}
-use Rattle.lc_walk.specs.declared.row.Row.{Row}
-use Rattle.lc_walk.specs.declared.row.Row.TheVariants.{Listed, Faulted, Broken}
-use Rattle.lc_walk.specs.declared.report.tree_check.TreeFault.{TreeFault}
+use Rattle.lc_walk.specs.{Rows.{row_of, IsWhole}, ClosedWalks.AreWhole, Assembled.{IsBrokenBy, RefusesRows}, Links.RefusesTree}
+use Rattle.lc_walk.specs.{Links.fault_of_tree, declared.broken_cause.BrokenCause.{BrokenCause, TheVariants.{Memory, TooManyDirs, TooDeep}}}
+use Rattle.lc_walk.specs.declared.{row.Row.{Row, TheVariants.{Listed, Faulted, Broken}}, report.tree_check.TreeFault.TreeFault}
 use Rattle.lc_walk.specs.declared.report.tree_check.TreeFault.TheVariants as tree
 
 abbrev pub NoneFor : BrokenCause → List (Ended Row) → Type 0

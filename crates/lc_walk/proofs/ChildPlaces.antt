@@ -3,11 +3,9 @@ use Rattle.std.proofs.Common.{◌≡◌, ℕ, zero, suc, List, [], ◌∷◌, re
 use Rattle.std.specs.List.{AllByRecursion}
 use Rattle.lc_glob.specs.Path.{path_in}
 use Rattle.lc_level.specs.Job.{JobModel}
-use Rattle.lc_walk.specs.RowViews.{ChildModel}
-use Rattle.lc_walk.specs.Lawful.{jobs_of, named}
+use Rattle.lc_walk.specs.{RowViews.ChildModel, Lawful.{jobs_of, named}}
 use Rattle.lc_board.proofs.Parents.{IsIn, IsOnce}
-use Rattle.lc_walk.proofs.Levels.{IsChild}
-use Rattle.lc_walk.proofs.NumbersReached.{same_head, same_tail}
+use Rattle.lc_walk.proofs.{Levels.IsChild, NumbersReached.{same_head, same_tail}}
 
 -- ---- the children that a row names, by their places
 

@@ -1,61 +1,31 @@
 -- From a closed board, and from what its workers left, to a closed walk and its report.
-use Rattle.std.proofs.Common.{◌≡◌, ℕ, zero, suc, ◌<◌, ◌≤◌, Bool, true, false, cond, List, [], ◌∷◌, ◌++◌, length, slice_get, map}
-use Rattle.std.proofs.Common.{refl, sym, ◌∙◌, ap, arith, subst, Option, Some, None, IsPermutation}
-use Rattle.std.proofs.lemmas.Bool.{or_left, or_right}
-use Rattle.std.specs.List.{flat_map, list_any, range_with_len, enumerate_from}
+use Rattle.std.proofs.Common.{◌≡◌, ℕ, zero, suc, ◌<◌, ◌≤◌, Bool, true, false, cond, List, [], ◌∷◌, ◌++◌, length, slice_get, map, refl}
+use Rattle.std.proofs.{Common.{sym, ◌∙◌, ap, arith, subst, Option, Some, None, IsPermutation}, lemmas.Bool.{or_left, or_right}}
 use Rattle.std.proofs.lemmas.List.Sorted.{IsPermutation-sym}
-use Rattle.lc_board.specs.Ends.{Saying, RowsHold, ender, ends}
-use Rattle.lc_board.specs.Part.{part}
-use Rattle.lc_board.specs.RowsInPlace.{InPlace}
-use Rattle.lc_board.specs.Pass.{Pass}
-use Rattle.lc_board.specs.ClosedBoard.{Promises, Settled}
-use Rattle.lc_board.specs.declared.event.Event.{Event}
-use Rattle.lc_board.specs.declared.event.Event.TheVariants.{Post, Claim, Return, Fault, Over}
-use Rattle.lc_board.specs.declared.answers.Ended.{Ended}
+use Rattle.std.specs.List.{flat_map, list_any, range_with_len, enumerate_from, Sorted.IsStrictlySortedBy}
+use Rattle.lc_board.specs.{Ends.{Saying, RowsHold, ender, ends}, Part.part, RowsInPlace.InPlace, Pass.Pass, ClosedBoard.{Promises, Settled}}
+use Rattle.lc_board.specs.declared.{event.Event.{Event, TheVariants.{Post, Claim, Return, Fault, Over}}, answers.Ended.Ended}
+use Rattle.lc_walk.specs.{Tally.{TallyModel, CountedFile, StandsFor}, ReportLines.{file_paths, fault_paths, skipped_paths}, Report.IsReport}
+use Rattle.lc_walk.specs.declared.report.{Report.Report, findings.Findings.Findings}
+use Rattle.lc_walk.specs.{declared.row.Row.{Row, TheVariants.{Listed, Faulted, Broken}}, Found.{Found, path_of, found_of, found_at}}
+use Rattle.lc_walk.specs.{Rows.{row_of, job_of, IsWhole}, Lawful.{Asked, IsLawful, Says, counted_files}, TreeOfRows.numbers_below}
+use Rattle.lc_walk.specs.{TreeOfRows.{child_number, tree_from, children_by_rows, tree_of_rows}, ClosedWalks.{Walked, AreWhole, row_found}}
+use Rattle.lc_walk.specs.{ClosedWalks.rows_found, FoundReports.{tallied, tallied_in, file_in, fault_in, directory_in, skipped_lines_in}}
+use Rattle.lc_walk.specs.FoundReports.{entries_in, tallied_of, files_of, faults_of, directories_of, skipped_lines_of, entry_count}
+use Rattle.lc_walk.specs.{FoundReports.IsReportOf, Assembled.{directories_by_row, files_by_row, faults_by_row, skipped_by_row}}
+use Rattle.lc_walk.specs.Assembled.{entries_by_row, directories_in_rows, files_in_rows, faults_in_rows, skipped_in_rows, entries_in_rows}
+use Rattle.lc_walk.specs.{Assembled.AreFindings, WorkerResults.{IsLawfulEnd, AreLawful, returned_files, files_given, files_of_pass}}
+use Rattle.lc_walk.specs.{WorkerResults.files_of_passes, BoardAnswers.{SomeRows, IsWalkReport}, RecursiveWalk.walk_of, RowViews.ChildModel}
+use Rattle.lc_tree.specs.{ByteOrder.AreApart, Listing.IsListing}
+use Rattle.lc_walk.proofs.{Joining.stands_permuted, RefusedPosts.{fuller_says, full_pass}, Reports.report_law, PathsApart.paths_once_law}
+use Rattle.lc_walk.proofs.PathsApart.{found_apart, file_list_apart, fault_list_apart, skipped_list_apart, all_lists_apart}
+use Rattle.lc_walk.proofs.{MovedLists.lists_moved, WalkOfRows.{core_law, one_answer_law}, OneTree.agrees, Listings.{flat_twice, sum_twice}}
+use Rattle.lc_walk.proofs.Listings.{flat_asked, tallied_went, files_went, faults_went, skipped_went, directories_went, entries_went}
+use Rattle.lc_walk.proofs.Listings.{got_here, by_number, by_place, sums_by_number, below_all, numbers_from_0}
+use Rattle.lc_level.specs.{Answers.{Answers, no_answers}, Job.JobModel, Level.{skipped_below, file_below, counted_in, skipped_in}}
+use Rattle.lc_level.specs.{WellFormed.IsWellFormed, FaultLines.fault_below}
+use Rattle.lc_board.proofs.{EndsInPlace.rows_hold, RowsOfWorkers.rows_are_ends, Weights.{each-map, flat_map-on}}
 use Rattle.lc_board.specs.declared.answers.Ended.TheVariants as ended
-use Rattle.lc_walk.specs.Tally.{TallyModel, CountedFile, StandsFor}
-use Rattle.lc_tree.specs.ByteOrder.{AreApart}
-use Rattle.lc_walk.specs.ReportLines.{file_paths, fault_paths, skipped_paths}
-use Rattle.lc_walk.specs.Report.{IsReport}
-use Rattle.lc_walk.proofs.Joining.{stands_permuted}
-use Rattle.lc_walk.specs.declared.report.Report.{Report}
-use Rattle.lc_walk.specs.declared.report.findings.Findings.{Findings}
-use Rattle.lc_level.specs.Answers.{Answers, no_answers}
-use Rattle.lc_level.specs.Job.{JobModel}
-use Rattle.lc_level.specs.Level.{skipped_below, file_below, counted_in, skipped_in}
-use Rattle.lc_walk.specs.Found.{Found, path_of, found_of, found_at}
-use Rattle.lc_walk.specs.Rows.{row_of, job_of, IsWhole}
-use Rattle.lc_walk.specs.Lawful.{Asked, IsLawful, Says, counted_files}
-use Rattle.lc_level.specs.WellFormed.{IsWellFormed}
-use Rattle.lc_walk.specs.TreeOfRows.{numbers_below, child_number, tree_from, children_by_rows, tree_of_rows}
-use Rattle.lc_walk.specs.ClosedWalks.{Walked, AreWhole, row_found, rows_found}
-use Rattle.lc_walk.specs.FoundReports.{tallied, tallied_in, file_in, fault_in, directory_in, skipped_lines_in}
-use Rattle.lc_walk.specs.FoundReports.{entries_in}
-use Rattle.lc_walk.specs.FoundReports.{tallied_of, files_of, faults_of, directories_of, skipped_lines_of, entry_count, IsReportOf}
-use Rattle.lc_walk.specs.Assembled.{directories_by_row, files_by_row, faults_by_row, skipped_by_row, entries_by_row}
-use Rattle.lc_walk.specs.Assembled.{directories_in_rows, files_in_rows, faults_in_rows, skipped_in_rows, entries_in_rows, AreFindings}
-use Rattle.lc_walk.specs.WorkerResults.{IsLawfulEnd, AreLawful, returned_files, files_given, files_of_pass, files_of_passes}
-use Rattle.lc_walk.proofs.RefusedPosts.{fuller_says, full_pass}
-use Rattle.lc_walk.specs.BoardAnswers.{SomeRows, IsWalkReport}
-use Rattle.std.specs.List.Sorted.{IsStrictlySortedBy}
-use Rattle.lc_tree.specs.Listing.{IsListing}
-use Rattle.lc_walk.specs.RecursiveWalk.{walk_of}
-use Rattle.lc_walk.specs.RowViews.{ChildModel}
-use Rattle.lc_walk.proofs.Reports.{report_law}
-use Rattle.lc_walk.proofs.PathsApart.{paths_once_law, found_apart, file_list_apart, fault_list_apart, skipped_list_apart}
-use Rattle.lc_walk.proofs.PathsApart.{all_lists_apart}
-use Rattle.lc_walk.specs.declared.row.Row.{Row}
-use Rattle.lc_walk.specs.declared.row.Row.TheVariants.{Listed, Faulted, Broken}
-use Rattle.lc_board.proofs.EndsInPlace.{rows_hold}
-use Rattle.lc_board.proofs.RowsOfWorkers.{rows_are_ends}
-use Rattle.lc_board.proofs.Weights.{each-map, flat_map-on}
-use Rattle.lc_walk.proofs.MovedLists.{lists_moved}
-use Rattle.lc_walk.proofs.WalkOfRows.{core_law, one_answer_law}
-use Rattle.lc_walk.proofs.OneTree.{agrees}
-use Rattle.lc_walk.proofs.Listings.{flat_twice, sum_twice, flat_asked, tallied_went, files_went, faults_went, skipped_went}
-use Rattle.lc_walk.proofs.Listings.{directories_went}
-use Rattle.lc_walk.proofs.Listings.{entries_went, got_here, by_number, by_place, sums_by_number, below_all, numbers_from_0}
-use Rattle.lc_level.specs.FaultLines.{fault_below}
 
 -- whether a post of a pass was answered Full
 abbrev pub is_full : Option (Pass JobModel Row) → Bool

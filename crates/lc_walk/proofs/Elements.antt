@@ -1,8 +1,7 @@
 -- Elements of lists, from the front.
 use Rattle.std.proofs.Common.{◌≡◌, zero, suc, ◌<◌, Bool, true, false, cond, List, [], ◌∷◌, ◌++◌, map, refl, sym, subst, arith, ◌⊎◌, inl}
-use Rattle.std.proofs.Common.{inr, ap}
+use Rattle.std.proofs.{Common.{inr, ap}, lemmas.List.Elements.Contains-append_cases}
 use Rattle.std.specs.List.{Contains, flat_map}
-use Rattle.std.proofs.lemmas.List.Elements.{Contains-append_cases}
 
 -- x is an element, from the front
 abbrev pub In : {X : Type 0} → X → List X → Type 0

@@ -1,36 +1,21 @@
 -- The entries of listed directories are what a walk finds.
 use Rattle.std.proofs.Common.{◌≡◌, ◌≢◌, ℕ, zero, suc, ◌+◌, ◌≤◌, List, [], ◌∷◌, ◌++◌, length, map, true, cond, ap, ◌∙◌, subst, arith, refl}
-use Rattle.std.proofs.Common.{length-append, IsPermutation}
-use Rattle.std.specs.List.{flat_map, Contains, AllByRecursion}
-use Rattle.std.proofs.lemmas.List.{length-map}
-use Rattle.std.proofs.lemmas.List.Sorted.{length_permutation}
+use Rattle.std.proofs.{Common.{length-append, IsPermutation}, lemmas.List.{length-map, Sorted.length_permutation}}
 use Rattle.std.proofs.lemmas.List.Sums.{sum_by-append, sum_by-cons}
+use Rattle.std.specs.List.{flat_map, Contains, AllByRecursion}
 use Rattle.lc_glob.specs.Path.{path_in}
-use Rattle.lc_level.specs.Answers.{Item, Answers, Tree}
-use Rattle.lc_level.specs.Job.{JobModel}
-use Rattle.lc_level.specs.Level.{Fate, counted, failed, walked, skipped, Level, faulted_level, listed_level, level, walked_in, fates_of}
-use Rattle.lc_level.specs.Narrowing.{part_of, absent_from}
-use Rattle.lc_level.specs.RuleFiles.{extended}
-use Rattle.lc_level.specs.FaultLines.{FaultLineModel}
-use Rattle.lc_level.specs.Filters.{FiltersModel}
-use Rattle.lc_tree.specs.Trees.{Listings, Contents}
+use Rattle.lc_level.specs.{Answers.{Item, Answers, Tree}, Job.JobModel, Level.{Fate, counted, failed, walked, skipped, Level}}
+use Rattle.lc_level.specs.{Level.{faulted_level, listed_level, level, walked_in, fates_of}, Narrowing.{part_of, absent_from}}
+use Rattle.lc_level.specs.{RuleFiles.extended, FaultLines.FaultLineModel, Filters.FiltersModel}
 use Rattle.lc_level.specs.declared.fault_word.FaultWord.TheVariants.{Absent}
-use Rattle.lc_walk.specs.Accounts.{absent_line, IsAccounted, EntriesLaw}
-use Rattle.lc_walk.specs.Found.{Found, found_file, found_fault, found_directory, found_skipped, found_absent, found_by, found_of, found_at}
-use Rattle.lc_walk.specs.Found.{children_of}
-use Rattle.lc_walk.specs.Found.{children_at}
-use Rattle.lc_walk.specs.RecursiveWalk.{walks_below, walk_by, walk_of}
-use Rattle.lc_walk.specs.WalkOptions.{asked_by, top_of}
-use Rattle.lc_walk.specs.FoundReports.{entries_in, tallied_of, faults_of, directories_of, skipped_lines_of, entry_count, IsReportOf}
-use Rattle.lc_walk.specs.declared.options.ReportLists.{ReportLists}
-use Rattle.lc_walk.specs.declared.report.Report.{Report}
-use Rattle.lc_walk.proofs.Levels.{level_keeps}
-use Rattle.lc_walk.proofs.AbsentPaths.{absent_asked}
-use Rattle.lc_walk.proofs.Elements.{In, contains}
-use Rattle.lc_walk.proofs.Listings.{no_entries_within}
-use Rattle.lc_walk.proofs.PresentFaults.{IsOther, IsFineFate, IsFineLevel, level_fine, each_led}
-use Rattle.lc_walk.proofs.Reports.{report_law}
-use Rattle.lc_walk.proofs.RowTrees.{by_answers}
+use Rattle.lc_tree.specs.Trees.{Listings, Contents}
+use Rattle.lc_walk.specs.{Accounts.{absent_line, IsAccounted, EntriesLaw}, Found.{Found, found_file, found_fault, found_directory}}
+use Rattle.lc_walk.specs.Found.{found_skipped, found_absent, found_by, found_of, found_at, children_of, children_at}
+use Rattle.lc_walk.specs.{RecursiveWalk.{walks_below, walk_by, walk_of}, WalkOptions.{asked_by, top_of}, FoundReports.entries_in}
+use Rattle.lc_walk.specs.FoundReports.{tallied_of, faults_of, directories_of, skipped_lines_of, entry_count, IsReportOf}
+use Rattle.lc_walk.specs.declared.{options.ReportLists.ReportLists, report.Report.Report}
+use Rattle.lc_walk.proofs.{Levels.level_keeps, AbsentPaths.absent_asked, Elements.{In, contains}, Listings.no_entries_within}
+use Rattle.lc_walk.proofs.{PresentFaults.{IsOther, IsFineFate, IsFineLevel, level_fine, each_led}, Reports.report_law, RowTrees.by_answers}
 use Rattle.lc_walk.proofs.WalkParts.{walk_splits, walk_maps, walk_grows, walk_each}
 
 -- each entry is found, or is a child directory

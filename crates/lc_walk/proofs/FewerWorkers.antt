@@ -1,26 +1,15 @@
 -- What fewer workers answer, more may answer: those who are left over make no event. A report of a walk over a smaller board is one over a
 -- larger board.
 use Rattle.std.proofs.Common.{ℕ, ◌≤◌, Bool, true, false, List, Result, Ok, Err, arith, refl}
-use Rattle.lc_board.specs.ClosedBoard.{Promises}
+use Rattle.lc_board.specs.{ClosedBoard.Promises, WordClose.words_promises, declared.answers.Ended.Ended}
 use Rattle.lc_board.proofs.RowsOfWorkers.{legal_for_more, stays_legal}
-use Rattle.lc_board.specs.WordClose.{words_promises}
-use Rattle.lc_board.specs.declared.answers.Ended.{Ended}
-use Rattle.lc_board.specs.declared.answers.Ended.TheVariants as ended
-use Rattle.lc_level.specs.Answers.{Answers}
-use Rattle.lc_level.specs.Job.{JobModel}
-use Rattle.lc_level.specs.TreeAnswers.{MayAnswer as MayAnswerBy}
+use Rattle.lc_level.specs.{Answers.Answers, Job.JobModel, TreeAnswers.MayAnswer as MayAnswerBy}
 use Rattle.lc_tree.specs.Trees.{Listings, Contents}
-use Rattle.lc_walk.specs.ClosedWalks.{AreWhole}
-use Rattle.lc_walk.specs.Lawful.{Asked, Says}
-use Rattle.lc_walk.specs.Rows.{IsWhole, row_of}
-use Rattle.lc_walk.specs.WalkOptions.{asked_by, top_of}
-use Rattle.lc_walk.specs.Walks.{Walks}
-use Rattle.lc_walk.specs.declared.options.Options.{Options}
-use Rattle.lc_walk.specs.declared.row.Row.{Row}
-use Rattle.lc_walk.specs.declared.row.Row.TheVariants.{Listed, Faulted, Broken}
-use Rattle.lc_walk.specs.BoardAnswers.{SomeRows, IsWalkReport, IsTooDeepSomewhere, FillsAll, WalkAnswers}
-use Rattle.lc_walk.specs.declared.report.Report.{Report}
-use Rattle.lc_walk.specs.declared.walk_fault.WalkFault.{WalkFault}
+use Rattle.lc_walk.specs.{ClosedWalks.AreWhole, Lawful.{Asked, Says}, Rows.{IsWhole, row_of}, WalkOptions.{asked_by, top_of}, Walks.Walks}
+use Rattle.lc_walk.specs.declared.{options.Options.Options, row.Row.{Row, TheVariants.{Listed, Faulted, Broken}}, report.Report.Report}
+use Rattle.lc_walk.specs.{declared.walk_fault.WalkFault.WalkFault, BoardAnswers.{SomeRows, IsWalkReport, IsTooDeepSomewhere, FillsAll}}
+use Rattle.lc_walk.specs.BoardAnswers.{WalkAnswers}
+use Rattle.lc_board.specs.declared.answers.Ended.TheVariants as ended
 use Rattle.lc_walk.specs.declared.walk_fault.WalkFault.TheVariants as fault
 
 module _ (MayAnswer : List ℕ → Answers → Type 0) (ask : Asked) (capacity few many : ℕ) (top : JobModel) (promises : Promises)

@@ -1,28 +1,19 @@
 -- What a walk finds, by the names that lead to it.
-use Rattle.std.proofs.Common.{◌≡◌, ℕ, zero, suc, ◌<◌, true, false, List, [], ◌∷◌, length, refl, sym, ◌∙◌, ap, subst, arith, ◌⊎◌}
-use Rattle.std.proofs.Common.{inl, inr, map, Option, Some, None, Result, Ok, Err}
-use Rattle.std.specs.List.{flat_map}
-use Rattle.std.specs.Option.{option_map_or}
-use Rattle.std.proofs.lemmas.List.{length-map}
+use Rattle.std.proofs.Common.{◌≡◌, ℕ, zero, suc, ◌<◌, true, false, List, [], ◌∷◌, length, refl, sym, ◌∙◌, ap, subst, arith, ◌⊎◌, inl, inr}
+use Rattle.std.proofs.{Common.{map, Option, Some, None, Result, Ok, Err}, lemmas.List.length-map}
+use Rattle.std.specs.{List.flat_map, Option.option_map_or}
 use Rattle.lc_census.specs.declared.line_count.Count.{Count}
 use Rattle.lc_tree.specs.declared.entry.Kind.TheVariants.{File, Dir, Other}
-use Rattle.lc_level.specs.declared.fault_word.FaultWord.{FaultWord}
-use Rattle.lc_glob.specs.Path.{path_in}
-use Rattle.lc_level.specs.Answers.{Item, file_item, directory_item, other_item, name_of, Items, Answers, Tree}
-use Rattle.lc_level.specs.FaultLines.{FaultLineModel}
-use Rattle.lc_level.specs.Job.{JobModel}
-use Rattle.lc_level.specs.Level.{Reason, other_kind, Fate, counted, failed, walked, skipped, Level, faulted_level, listed_level, level}
-use Rattle.lc_level.specs.Level.{level_of}
+use Rattle.lc_level.specs.{declared.fault_word.FaultWord.{FaultWord, TheVariants.Absent}, Answers.{Item, file_item, directory_item}}
+use Rattle.lc_level.specs.{Answers.{other_item, name_of, Items, Answers, Tree}, FaultLines.FaultLineModel, Job.JobModel, Level.Reason}
+use Rattle.lc_level.specs.Level.{other_kind, Fate, counted, failed, walked, skipped, Level, faulted_level, listed_level, level, level_of}
 use Rattle.lc_level.specs.Level.{level_after, level_of_items, walked_in, fates_of, fate_of, file_fate, file_reason, reason_of, is_taken}
-use Rattle.lc_level.specs.Level.{child_job}
-use Rattle.lc_level.specs.Narrowing.{part_of, absent_from}
-use Rattle.lc_level.specs.RuleFiles.{RuleBytes, rule_bytes, extended}
+use Rattle.lc_level.specs.{Level.child_job, Narrowing.{part_of, absent_from}, RuleFiles.{RuleBytes, rule_bytes, extended}}
 use Rattle.lc_level.specs.Filters.{FiltersModel}
-use Rattle.lc_level.specs.declared.fault_word.FaultWord.TheVariants.{Absent}
-use Rattle.lc_walk.specs.Found.{Found, found_file, found_fault, found_directory, found_skipped, found_absent, found_by, found_of, found_at}
-use Rattle.lc_walk.specs.Found.{children_of, children_at}
-use Rattle.lc_walk.specs.FoundAt.{IsListed, WalksInto, LeadsTo, HasEntry, Gives, IsFoundIn, FoundLaw}
-use Rattle.lc_walk.specs.RecursiveWalk.{walks_below, walk_of}
+use Rattle.lc_glob.specs.Path.{path_in}
+use Rattle.lc_walk.specs.Found.{Found, found_file, found_fault, found_directory, found_skipped, found_absent, found_by, found_of}
+use Rattle.lc_walk.specs.{Found.{found_at, children_of, children_at}, FoundAt.{IsListed, WalksInto, LeadsTo, HasEntry, Gives, IsFoundIn}}
+use Rattle.lc_walk.specs.{FoundAt.FoundLaw, RecursiveWalk.{walks_below, walk_of}}
 use Rattle.lc_level.proofs.Fates.{children_by, walked_items_are}
 use Rattle.lc_walk.proofs.Elements.{In, is_in, contains, in_skipped, in_right, in_either, in_lists, of_lists, if_cond, cond_if, in_mapped}
 use Rattle.lc_walk.proofs.Elements.{of_mapped}

@@ -1,14 +1,9 @@
 -- What the workers of a walk leave is gathered one after another.
-use Rattle.std.proofs.Common.{◌≡◌, ℕ, zero, suc, List, [], ◌∷◌, ◌++◌, length, slice_get, refl, sym, ◌∙◌, ap, subst, Some, None, ◌⊎◌}
-use Rattle.std.proofs.Common.{inl, inr, arith, length-append, append-nil}
+use Rattle.std.proofs.Common.{◌≡◌, ℕ, zero, suc, List, [], ◌∷◌, ◌++◌, length, slice_get, refl, sym, ◌∙◌, ap, subst, Some, None, ◌⊎◌, inl}
+use Rattle.std.proofs.{Common.{inr, arith, length-append, append-nil}, lemmas.Grind.flat_map-append}
 use Rattle.std.specs.List.{flat_map}
-use Rattle.std.proofs.lemmas.Grind.{flat_map-append}
-use Rattle.lc_walk.specs.Running.{AllOver, TalliesAll}
-use Rattle.lc_walk.specs.Tally.{TallyModel, CountedFile, StandsFor}
-use Rattle.lc_walk.specs.TreeOfRows.{numbers_below}
-use Rattle.lc_walk.specs.WorkerResults.{TalliesFor}
-use Rattle.lc_walk.specs.declared.worker.StopReason.TheVariants.{Over}
-use Rattle.lc_walk.specs.declared.worker.WorkerResult.{WorkerResult}
+use Rattle.lc_walk.specs.{Running.{AllOver, TalliesAll}, Tally.{TallyModel, CountedFile, StandsFor}, TreeOfRows.numbers_below}
+use Rattle.lc_walk.specs.{WorkerResults.TalliesFor, declared.worker.{StopReason.TheVariants.Over, WorkerResult.WorkerResult}}
 
 -- what stands in a list with one more at its end
 in_longer : {A : Type 0} (xs : List A) (x : A) (i : ℕ) (y : A) → slice_get (xs ++ x ∷ []) i ≡ Some y

@@ -1,25 +1,14 @@
 -- What one step of a tally does to its rows.
-use Rattle.std.proofs.Common.{◌≡◌, ℕ, ◌+◌, ◌<◌, min, Bool, true, false, cond, List, [], ◌∷◌, ◌++◌, length, get_or, take, refl, sym, ◌∙◌, ap}
-use Rattle.std.proofs.Common.{arith, subst, Option, Some, None, Result, Ok, Err}
-use Rattle.std.proofs.Math.ListN.{set}
-use Rattle.std.specs.Prelude.{IfSome, MatchOption, is_some}
-use Rattle.std.specs.Result.{result_ok}
-use Rattle.std.specs.List.{All, AllWithin, HoldsAt, sum_by}
-use Rattle.std.specs.List.Sorted.{IsBinarySearchResult, IsSearchInRange}
-use Rattle.std.specs.Ordering.{is_eq, ordering_reverse}
-use Rattle.std.specs.declared.cmp.Ordering.{Ordering}
-use Rattle.std.specs.declared.cmp.Ordering.TheVariants.{Less, Equal, Greater}
-use Rattle.std.proofs.lemmas.Bool.{false≢true}
-use Rattle.std.proofs.lemmas.List.{get_or-take, length-take}
-use Rattle.std.proofs.lemmas.List.Sums.{sum_by-set, sum_by_push, get_or-le-sum_by}
-use Rattle.std.proofs.lemmas.List.Elements.{All-set}
+use Rattle.std.proofs.Common.{◌≡◌, ℕ, ◌+◌, ◌<◌, min, Bool, true, false, cond, List, [], ◌∷◌, ◌++◌, length, get_or, take, refl, sym, ◌∙◌}
+use Rattle.std.proofs.{Common.{ap, arith, subst, Option, Some, None, Result, Ok, Err}, Math.ListN.set, lemmas.Bool.false≢true}
+use Rattle.std.proofs.lemmas.List.{get_or-take, length-take, Sums.{sum_by-set, sum_by_push, get_or-le-sum_by}, Elements.All-set}
 use Rattle.std.proofs.lemmas.List.Folds.{list_any_none}
-use Rattle.lc_walk.specs.Key.{Key, key_cmp, same_key}
-use Rattle.lc_walk.specs.TallyRows.{TallyRowModel, sums_of_rows, Gains, has_row, row_with}
-use Rattle.lc_walk.specs.Sums.{plus, IsInRange}
-use Rattle.lc_walk.specs.declared.tally.sums.Sums.{Sums}
-use Rattle.lc_walk.proofs.Keys.{key_cmp_total}
-use Rattle.lc_walk.proofs.RowSums.{gives, SeesKeys, AddsAlike, has_sums, front_of}
+use Rattle.std.specs.{Prelude.{IfSome, MatchOption, is_some}, Result.result_ok, List.{All, AllWithin, HoldsAt, sum_by}}
+use Rattle.std.specs.{List.Sorted.{IsBinarySearchResult, IsSearchInRange}, Ordering.{is_eq, ordering_reverse}}
+use Rattle.std.specs.declared.cmp.Ordering.{Ordering, TheVariants.{Less, Equal, Greater}}
+use Rattle.lc_walk.specs.{Key.{Key, key_cmp, same_key}, TallyRows.{TallyRowModel, sums_of_rows, Gains, has_row, row_with}, Sums.plus}
+use Rattle.lc_walk.specs.{Sums.IsInRange, declared.tally.sums.Sums.Sums}
+use Rattle.lc_walk.proofs.{Keys.key_cmp_total, RowSums.{gives, SeesKeys, AddsAlike, has_sums, front_of}}
 
 -- what a row gives that has gained what another one gives
 gave : (b : Bool) (u w m s t : ℕ) → w ≡ u + m → s + cond b u 0 ≡ t + cond b w 0 → s ≡ t + cond b m 0

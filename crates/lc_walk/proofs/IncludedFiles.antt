@@ -1,29 +1,19 @@
 -- A walk of included files counts those of all files that are included.
-use Rattle.std.proofs.Common.{◌≡◌, ℕ, zero, suc, Bool, true, false, cond, List, [], ◌∷◌, ◌++◌, filter, length, map, refl, sym, ◌∙◌}
-use Rattle.std.proofs.Common.{ap, ap₂, Option, None, Result, Ok, Err, Some}
-use Rattle.std.specs.Prelude.{option_map}
-use Rattle.std.specs.List.{flat_map}
-use Rattle.std.specs.Option.{option_map_or, option_or}
-use Rattle.std.proofs.lemmas.List.Elements.{filter-append}
-use Rattle.std.proofs.lemmas.Grind.{flat_map-append}
+use Rattle.std.proofs.Common.{◌≡◌, ℕ, zero, suc, Bool, true, false, cond, List, [], ◌∷◌, ◌++◌, filter, length, map, refl, sym, ◌∙◌, ap}
+use Rattle.std.proofs.{Common.{ap₂, Option, None, Result, Ok, Err, Some}, lemmas.{List.Elements.filter-append, Grind.flat_map-append}}
+use Rattle.std.specs.{Prelude.option_map, List.flat_map, Option.{option_map_or, option_or}}
 use Rattle.lc_census.specs.declared.line_count.Count.{Count}
 use Rattle.lc_glob.specs.Path.{path_in}
-use Rattle.lc_level.specs.Answers.{Item, file_item, directory_item, other_item, name_of, Items, Answers, Tree}
-use Rattle.lc_level.specs.FaultLines.{FaultLineModel}
-use Rattle.lc_level.specs.Job.{JobModel}
-use Rattle.lc_level.specs.Level.{FileLineModel, Reason, not_included, other_kind, Fate, counted, failed, walked, skipped, listed_level}
-use Rattle.lc_level.specs.Level.{level_of}
-use Rattle.lc_level.specs.Level.{level_after, fate_of, fates_of, file_fate, child_job, reason_of, is_taken}
-use Rattle.lc_level.specs.Narrowing.{part_of, absent_from}
-use Rattle.lc_level.specs.RuleFiles.{RuleBytes, rule_bytes, extended}
-use Rattle.lc_level.specs.Filters.{FiltersModel, including, is_included, patterns_for}
-use Rattle.lc_level.specs.declared.fault_word.FaultWord.{FaultWord}
+use Rattle.lc_level.specs.{Answers.{Item, file_item, directory_item, other_item, name_of, Items, Answers, Tree}, FaultLines.FaultLineModel}
+use Rattle.lc_level.specs.{Job.JobModel, Level.{FileLineModel, Reason, not_included, other_kind, Fate, counted, failed, walked, skipped}}
+use Rattle.lc_level.specs.Level.{listed_level, level_of, level_after, fate_of, fates_of, file_fate, child_job, reason_of, is_taken}
+use Rattle.lc_level.specs.{Narrowing.{part_of, absent_from}, RuleFiles.{RuleBytes, rule_bytes, extended}, Filters.{FiltersModel, including}}
+use Rattle.lc_level.specs.{Filters.{is_included, patterns_for}, declared.fault_word.FaultWord.FaultWord}
 use Rattle.lc_level.proofs.Fates.{children_by, walked_items_are}
 use Rattle.lc_rules.specs.IgnoreRules.{RuleModel, rules_of}
 use Rattle.lc_tree.specs.declared.entry.Kind.TheVariants.{File, Dir, Other}
 use Rattle.lc_walk.specs.Found.{Found, found_directory, found_by, found_absent, found_of, found_at, children_of, children_at}
-use Rattle.lc_walk.specs.IncludedFiles.{counted_in, counted_of, includes, IncludeLaw}
-use Rattle.lc_walk.specs.RecursiveWalk.{walks_below, walk_of}
+use Rattle.lc_walk.specs.{IncludedFiles.{counted_in, counted_of, includes, IncludeLaw}, RecursiveWalk.{walks_below, walk_of}}
 use Rattle.lc_walk.specs.FoundReports.{directory_in, directories_of}
 
 filter_all : {X : Type 0} (xs : List X) → filter (λ x. true) xs ≡ xs

@@ -1,19 +1,13 @@
 -- What tallies stand for.
-use Rattle.std.proofs.Common.{◌≡◌, ℕ, ◌+◌, ◌<◌, ◌≤◌, ◌^◌, Bool, List, [], ◌++◌, refl, sym, ◌∙◌, ap}
-use Rattle.std.proofs.Common.{subst, arith, length-append}
-use Rattle.std.specs.List.{sum_by}
-use Rattle.std.specs.List.Sorted.{IsPermutation}
-use Rattle.std.proofs.lemmas.List.Sums.{sum_by-append, length-filter}
-use Rattle.std.proofs.lemmas.List.Sorted.{sum_by-IsPermutation, length_permutation}
+use Rattle.std.proofs.Common.{◌≡◌, ℕ, ◌+◌, ◌<◌, ◌≤◌, ◌^◌, Bool, List, [], ◌++◌, refl, sym, ◌∙◌, ap, subst, arith, length-append}
+use Rattle.std.proofs.lemmas.List.{Sums.{sum_by-append, length-filter}, Sorted.{sum_by-IsPermutation, length_permutation}}
 use Rattle.std.proofs.lemmas.List.Elements.{All-append, filter-append}
-use Rattle.lc_walk.specs.Key.{Key, same_key}
-use Rattle.lc_walk.specs.TallyRows.{TallyRowModel, sums_of_rows, rows_with, HasSumsOf, Gains, AddsUp}
-use Rattle.lc_walk.specs.Sums.{plus, no_files, IsModest}
-use Rattle.lc_walk.specs.Tally.{TallyModel, TallyHolds, IsTally, StandsFor, CountedFile, sums_of_files, files_with, key_of}
-use Rattle.lc_walk.specs.declared.tally.sums.Sums.{Sums}
-use Rattle.lc_walk.proofs.Filtered.{part, sum_by-filter}
-use Rattle.lc_walk.proofs.RowSums.{same_sums, sums_of_both, key_sums_of_both}
-use Rattle.lc_walk.proofs.Totals.{same_totals, totals_gained}
+use Rattle.std.specs.List.{sum_by, Sorted.IsPermutation}
+use Rattle.lc_walk.specs.{Key.{Key, same_key}, TallyRows.{TallyRowModel, sums_of_rows, rows_with, HasSumsOf, Gains, AddsUp}, Sums.plus}
+use Rattle.lc_walk.specs.{Sums.{no_files, IsModest}, Tally.{TallyModel, TallyHolds, IsTally, StandsFor, CountedFile, sums_of_files}}
+use Rattle.lc_walk.specs.{Tally.{files_with, key_of}, declared.tally.sums.Sums.Sums}
+use Rattle.lc_walk.proofs.{Filtered.{part, sum_by-filter}, RowSums.{same_sums, sums_of_both, key_sums_of_both}, Totals.same_totals}
+use Rattle.lc_walk.proofs.Totals.{totals_gained}
 
 -- files of two lists
 pub both : (fs gs : List CountedFile) → sums_of_files (fs ++ gs) ≡ plus (sums_of_files fs) (sums_of_files gs)

@@ -1,13 +1,8 @@
 -- The order of keys.
-use Rattle.std.proofs.Common.{◌≡◌, true, refl, ap}
-use Rattle.std.specs.Cmp.{IsTotalOrder}
-use Rattle.std.specs.Cmp.Lexicographic.{options_total}
-use Rattle.std.specs.Ordering.{is_eq}
-use Rattle.std.specs.declared.cmp.Ordering.{Ordering}
+use Rattle.std.proofs.{Common.{◌≡◌, true, refl, ap}, lemmas.Cmp.{nat_cmp_total, nat_list_cmp_total, on_total, then_total, alike_right}}
+use Rattle.std.specs.{Cmp.{IsTotalOrder, Lexicographic.options_total}, Ordering.is_eq, declared.cmp.Ordering.Ordering}
 use Rattle.std.specs.declared.cmp.Ordering.TheVariants.{Less, Equal, Greater}
-use Rattle.std.proofs.lemmas.Cmp.{nat_cmp_total, nat_list_cmp_total, on_total, then_total, alike_right}
-use Rattle.lc_walk.specs.Key.{Key, key_cmp, same_key}
-use Rattle.lc_walk.specs.Key.{text_place, eol_place}
+use Rattle.lc_walk.specs.Key.{Key, key_cmp, same_key, text_place, eol_place}
 
 -- keys are in a total order
 pub key_cmp_total : IsTotalOrder key_cmp

@@ -1,24 +1,17 @@
 -- What holds of every level.
-use Rattle.std.proofs.Common.{◌≡◌, ℕ, cond, Bool, true, false, List, [], ◌∷◌, ◌++◌, refl, sym, subst, ◌⊎◌, inl, inr, Option, Some}
-use Rattle.std.proofs.Common.{None, Result, Ok, Err, codes, bytes_eq}
-use Rattle.std.proofs.lemmas.Bool.{and_parts}
+use Rattle.std.proofs.Common.{◌≡◌, ℕ, cond, Bool, true, false, List, [], ◌∷◌, ◌++◌, refl, sym, subst, ◌⊎◌, inl, inr, Option, Some, None}
+use Rattle.std.proofs.{Common.{Result, Ok, Err, codes, bytes_eq}, lemmas.Bool.and_parts}
 use Rattle.std.specs.List.{flat_map, AllByRecursion}
 use Rattle.lc_tree.specs.Listing.{IsListing}
-use Rattle.lc_level.specs.declared.fault_word.FaultWord.{FaultWord}
-use Rattle.lc_glob.specs.Path.{path_in}
-use Rattle.lc_level.specs.Answers.{Item, file_item, directory_item, other_item, Items, Answers, name_of}
-use Rattle.lc_level.specs.Job.{JobModel}
-use Rattle.lc_level.specs.FaultLines.{FaultLineModel}
-use Rattle.lc_level.specs.RuleFiles.{Pair, RuleBytes, extended, file_named, has_directory, is_top, has_git, and_then, reading}
-use Rattle.lc_level.specs.RuleFiles.{ignore_named, both_read, info_items, info_bytes, own_bytes, rule_bytes}
-use Rattle.lc_level.specs.Level.{Level, faulted_level, level, level_of, level_after, level_of_items, is_taken, child_job}
-use Rattle.lc_level.specs.Level.{walked_in, fates_of}
-use Rattle.lc_level.specs.Narrowing.{part_of}
-use Rattle.lc_level.specs.Filters.{FiltersModel}
-use Rattle.lc_walk.specs.Found.{children_of, children_at}
+use Rattle.lc_level.specs.{declared.fault_word.FaultWord.FaultWord, Answers.{Item, file_item, directory_item, other_item, Items, Answers}}
+use Rattle.lc_level.specs.{Answers.name_of, Job.JobModel, FaultLines.FaultLineModel, RuleFiles.{Pair, RuleBytes, extended, file_named}}
+use Rattle.lc_level.specs.RuleFiles.{has_directory, is_top, has_git, and_then, reading, ignore_named, both_read, info_items, info_bytes}
+use Rattle.lc_level.specs.{RuleFiles.{own_bytes, rule_bytes}, Level.{Level, faulted_level, level, level_of, level_after, level_of_items}}
+use Rattle.lc_level.specs.{Level.{is_taken, child_job, walked_in, fates_of}, Narrowing.part_of, Filters.FiltersModel}
 use Rattle.lc_level.specs.WellFormed.{IsWellFormed, listed_in}
-use Rattle.lc_level.proofs.WellFormed.{IsGoodName, good_one, Spread, spread}
-use Rattle.lc_level.proofs.Fates.{children_by, walked_items_are}
+use Rattle.lc_glob.specs.Path.{path_in}
+use Rattle.lc_walk.specs.Found.{children_of, children_at}
+use Rattle.lc_level.proofs.{WellFormed.{IsGoodName, good_one, Spread, spread}, Fates.{children_by, walked_items_are}}
 use Rattle.lc_walk.proofs.TakingPart.{spread_part}
 
 -- what holds of each fault, and of the level of the items with any chains, holds of the level

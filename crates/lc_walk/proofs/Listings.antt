@@ -1,22 +1,15 @@
 -- What the parts of a level give to a report, and lists by number.
 use Rattle.std.proofs.Common.{◌≡◌, ℕ, zero, suc, ◌+◌, ◌<◌, Bool, true, false, cond, List, [], ◌∷◌, ◌++◌, length, slice_get, map, sum_by}
-use Rattle.std.proofs.Common.{refl, sym, ◌∙◌, ap, arith, subst, Option, Some, None, append_assoc}
+use Rattle.std.proofs.{Common.{refl, sym, ◌∙◌, ap, arith, subst, Option, Some, None, append_assoc}, lemmas.Grind.flat_map-append}
+use Rattle.std.proofs.lemmas.List.{map-append, Sums.{sum_by-append, sum_by-cons}}
 use Rattle.std.specs.List.{flat_map, range_with_len, enumerate_from, AllByRecursion}
-use Rattle.std.proofs.lemmas.Grind.{flat_map-append}
-use Rattle.std.proofs.lemmas.List.{map-append}
-use Rattle.std.proofs.lemmas.List.Sums.{sum_by-append, sum_by-cons}
-use Rattle.lc_level.specs.Job.{JobModel}
-use Rattle.lc_level.specs.Level.{Fate, counted, failed, walked, skipped, listed_level, counted_of, failed_of, skipped_of, counted_in}
-use Rattle.lc_level.specs.Level.{skipped_below, file_below, failed_in}
-use Rattle.lc_level.specs.Level.{skipped_in, absent_faults}
-use Rattle.lc_level.specs.declared.fault_word.FaultWord.TheVariants.{Absent}
-use Rattle.lc_walk.specs.Found.{Found, found_directory, found_absent, found_by, found_of}
-use Rattle.lc_walk.specs.FoundReports.{tallied, tallied_in, file_in, fault_in, directory_in, skipped_lines_in}
-use Rattle.lc_walk.specs.FoundReports.{entries_in}
-use Rattle.lc_walk.specs.FoundReports.{tallied_of, files_of, faults_of, directories_of, skipped_lines_of, entry_count}
-use Rattle.lc_walk.specs.TreeOfRows.{numbers_below}
+use Rattle.lc_level.specs.{Job.JobModel, Level.{Fate, counted, failed, walked, skipped, listed_level, counted_of, failed_of, skipped_of}}
+use Rattle.lc_level.specs.Level.{counted_in, skipped_below, file_below, failed_in, skipped_in, absent_faults}
+use Rattle.lc_level.specs.{declared.fault_word.FaultWord.TheVariants.Absent, FaultLines.{fault_below, FaultLineModel}}
+use Rattle.lc_walk.specs.{Found.{Found, found_directory, found_absent, found_by, found_of}, FoundReports.{tallied, tallied_in, file_in}}
+use Rattle.lc_walk.specs.FoundReports.{fault_in, directory_in, skipped_lines_in, entries_in, tallied_of, files_of, faults_of}
+use Rattle.lc_walk.specs.{FoundReports.{directories_of, skipped_lines_of, entry_count}, TreeOfRows.numbers_below}
 use Rattle.lc_board.proofs.Weights.{each-map, each-append, flat_map-on}
-use Rattle.lc_level.specs.FaultLines.{fault_below, FaultLineModel}
 
 -- lists of lists of lists
 pub flat_twice : {A B C : Type 0} (g : B → List C) (f : A → List B) (xs : List A)

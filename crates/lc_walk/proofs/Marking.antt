@@ -1,16 +1,12 @@
 -- The steps of going through the rows' children.
-use Rattle.std.proofs.Common.{◌≡◌, ◌≢◌, ℕ, zero, suc, ◌+◌, ◌<◌, ◌≤◌, ◌==◌, Bool, true, false, List, [], ◌∷◌, length, slice_get}
-use Rattle.std.proofs.Common.{slice_set, refl, sym, ◌∙◌, ap, arith, subst, Some, ◌⊎◌, inl, inr, eq-eqb}
-use Rattle.std.proofs.lemmas.Option.{slice_get_within}
+use Rattle.std.proofs.Common.{◌≡◌, ◌≢◌, ℕ, zero, suc, ◌+◌, ◌<◌, ◌≤◌, ◌==◌, Bool, true, false, List, [], ◌∷◌, length, slice_get, slice_set}
+use Rattle.std.proofs.{Common.{refl, sym, ◌∙◌, ap, arith, subst, Some, ◌⊎◌, inl, inr, eq-eqb}, lemmas.Option.slice_get_within}
 use Rattle.std.proofs.lemmas.Bool.{eqb-true, cases_lt}
 use Rattle.lc_board.proofs.Places.{get_set_same, get_set_other}
 use Rattle.lc_board.specs.declared.answers.Ended.{Ended}
 use Rattle.lc_glob.specs.Path.{path_in}
-use Rattle.lc_walk.specs.RowViews.{ChildModel}
-use Rattle.lc_walk.specs.Rows.{row_of, job_of, children_in}
-use Rattle.lc_walk.specs.Assembled.{IsEdge, IsLinkedOnce, IsPlaced}
-use Rattle.lc_walk.specs.Links.{Seen, IsLinkedSoFar, AreLinked, IsNext, IsPathAt}
-use Rattle.lc_walk.specs.declared.row.Row.{Row}
+use Rattle.lc_walk.specs.{RowViews.ChildModel, Rows.{row_of, job_of, children_in}, Assembled.{IsEdge, IsLinkedOnce, IsPlaced}, Links.Seen}
+use Rattle.lc_walk.specs.{Links.{IsLinkedSoFar, AreLinked, IsNext, IsPathAt}, declared.row.Row.Row}
 use Rattle.lc_walk.proofs.Listings.{got_here}
 
 -- what is seen with one child more is that child, or was seen

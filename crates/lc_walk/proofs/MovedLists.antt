@@ -1,11 +1,9 @@
 -- Lists that the elements of a list give, after these change places.
 use Rattle.std.proofs.Common.{◌≡◌, ℕ, zero, suc, ◌+◌, ◌<◌, List, [], ◌∷◌, length, get_or, map, refl, sym, ◌∙◌, ap, subst, arith}
-use Rattle.std.proofs.Common.{IsPermutation, slice_set, slice_index_or, swap, sum_by}
-use Rattle.std.specs.List.{flat_map}
-use Rattle.std.proofs.lemmas.List.Sums.{sum_by-cons}
-use Rattle.std.proofs.lemmas.List.Folds.{flat_map-map}
+use Rattle.std.proofs.{Common.{IsPermutation, slice_set, slice_index_or, swap, sum_by}, lemmas.List.{Sums.sum_by-cons, Folds.flat_map-map}}
 use Rattle.std.proofs.lemmas.List.Sorted.{IsPermutation-refl, IsPermutation-swap, IsPermutation-keeps, sum_by-IsPermutation}
 use Rattle.std.proofs.lemmas.List.Sorted.{length_permutation}
+use Rattle.std.specs.List.{flat_map}
 use Rattle.lc_board.proofs.Weights.{weigh, times, only, permuted_lists}
 
 module _ {A B : Type 0} (f : A → B) where

@@ -1,23 +1,14 @@
 -- What a walk of a history's tree finds, by the numbers that it reaches.
 use Rattle.std.proofs.Common.{◌≡◌, ◌≢◌, ℕ, zero, suc, Bool, true, false, cond, List, [], ◌∷◌, ◌++◌, refl, sym, ◌∙◌, ap, Option, Some}
-use Rattle.std.proofs.Common.{None, append_assoc, bytes_eq}
-use Rattle.std.proofs.Math.Path.{fun_ext}
+use Rattle.std.proofs.{Common.{None, append_assoc, bytes_eq}, Math.Path.fun_ext, lemmas.Grind.flat_map-append}
 use Rattle.std.specs.List.{flat_map, AllByRecursion}
-use Rattle.std.proofs.lemmas.Grind.{flat_map-append}
-use Rattle.lc_board.specs.State.{Absent, status}
-use Rattle.lc_board.specs.LegalHistory.{posts_under, IsLegal}
-use Rattle.lc_board.specs.RowsInPlace.{job_posted}
-use Rattle.lc_board.specs.declared.event.Event.{Event}
+use Rattle.lc_board.specs.{State.{Absent, status}, LegalHistory.{posts_under, IsLegal}, RowsInPlace.job_posted, declared.event.Event.Event}
 use Rattle.lc_level.specs.Job.{JobModel}
-use Rattle.lc_walk.specs.RecursiveWalk.{walks_below, walk_by}
-use Rattle.lc_walk.specs.RowViews.{ChildModel}
-use Rattle.lc_walk.specs.Lawful.{jobs_of, named}
-use Rattle.lc_walk.specs.TreeOfRows.{child_number, tree_from}
-use Rattle.lc_board.proofs.Weights.{each-map}
-use Rattle.lc_board.proofs.PostedNumbers.{Known, known}
-use Rattle.lc_walk.proofs.Reach.{reach}
+use Rattle.lc_walk.specs.{RecursiveWalk.{walks_below, walk_by}, RowViews.ChildModel, Lawful.{jobs_of, named}, TreeOfRows.child_number}
+use Rattle.lc_walk.specs.TreeOfRows.{tree_from}
+use Rattle.lc_board.proofs.{Weights.each-map, PostedNumbers.{Known, known}}
+use Rattle.lc_walk.proofs.{Reach.reach, Levels.IsApart}
 use Rattle.lc_level.proofs.WellFormed.{bytes_same}
-use Rattle.lc_walk.proofs.Levels.{IsApart}
 
 same_some : {A : Type 0} (x y : A) → Some x ≡ Some y → x ≡ y
 same_some x y e = cc

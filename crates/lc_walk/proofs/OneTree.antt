@@ -1,31 +1,15 @@
 -- The rows of a walk whose tree answers as one tree stand where names lead in that tree.
-use Rattle.std.proofs.Common.{◌≡◌, ◌≢◌, ℕ, zero, suc, ◌<◌, Bool, List, [], ◌∷◌, ◌++◌, slice_get, refl, sym, ◌∙◌, ap, subst}
-use Rattle.std.proofs.Common.{Some, inl, inr, arith}
+use Rattle.std.proofs.Common.{◌≡◌, ◌≢◌, ℕ, zero, suc, ◌<◌, Bool, List, [], ◌∷◌, ◌++◌, slice_get, refl, sym, ◌∙◌, ap, subst, Some, inl}
+use Rattle.std.proofs.{Common.{inr, arith}, lemmas.Option.slice_get_within}
 use Rattle.std.specs.List.{AllByRecursion}
-use Rattle.std.proofs.lemmas.Option.{slice_get_within}
-use Rattle.lc_board.specs.State.{Absent, status}
-use Rattle.lc_board.specs.LegalHistory.{posts_under}
-use Rattle.lc_board.specs.declared.event.Event.{Event}
-use Rattle.lc_board.specs.declared.answers.Ended.{Ended}
+use Rattle.lc_board.specs.{State.{Absent, status}, LegalHistory.posts_under, declared.{event.Event.Event, answers.Ended.Ended}}
 use Rattle.lc_board.proofs.Parents.{IsIn, HasParent, parent, posted_above}
 use Rattle.lc_tree.specs.Paths.{names_of_path}
-use Rattle.lc_level.specs.Answers.{Answers, Tree}
-use Rattle.lc_level.specs.Job.{JobModel}
-use Rattle.lc_level.specs.Level.{level, child_job}
-use Rattle.lc_level.specs.Filters.{FiltersModel}
-use Rattle.lc_walk.specs.Found.{children_of, children_at}
-use Rattle.lc_walk.specs.FoundAt.{WalksInto, LeadsTo}
-use Rattle.lc_walk.specs.Lawful.{Asked, jobs_of}
-use Rattle.lc_walk.specs.Rows.{row_of, job_of}
-use Rattle.lc_walk.specs.BoardAnswers.{IsOneAnswer}
-use Rattle.lc_walk.specs.ClosedWalks.{Walked, AreWhole}
-use Rattle.lc_walk.specs.declared.row.Row.{Row}
-use Rattle.lc_walk.proofs.NumbersReached.{same_head, same_tail}
-use Rattle.lc_walk.proofs.Elements.{In}
-use Rattle.lc_walk.proofs.FoundByPlace.{child_by_level}
-use Rattle.lc_walk.proofs.WalkOfRows.{row_here, job_or, job_at, inside, there, job_at_top, own_jobs, fits}
-use Rattle.lc_walk.proofs.Levels.{IsChild}
-use Rattle.lc_walk.proofs.Places.{names_of_path-path_in}
+use Rattle.lc_level.specs.{Answers.{Answers, Tree}, Job.JobModel, Level.{level, child_job}, Filters.FiltersModel}
+use Rattle.lc_walk.specs.{Found.{children_of, children_at}, FoundAt.{WalksInto, LeadsTo}, Lawful.{Asked, jobs_of}, Rows.{row_of, job_of}}
+use Rattle.lc_walk.specs.{BoardAnswers.IsOneAnswer, ClosedWalks.{Walked, AreWhole}, declared.row.Row.Row}
+use Rattle.lc_walk.proofs.{NumbersReached.{same_head, same_tail}, Elements.In, FoundByPlace.child_by_level, WalkOfRows.{row_here, job_or}}
+use Rattle.lc_walk.proofs.{WalkOfRows.{job_at, inside, there, job_at_top, own_jobs, fits}, Levels.IsChild, Places.names_of_path-path_in}
 
 -- where names lead to a directory that leaves in a child, they lead on to the child
 pub leads_on : (filters : FiltersModel) (place : List (List ℕ)) (j k inside : JobModel) (name : List ℕ) (t : Tree)

@@ -3,18 +3,13 @@ use Rattle.std.proofs.Common.{◌≡◌, ℕ, true, false, List, [], ◌∷◌, 
 use Rattle.std.specs.Option.{option_map_or}
 use Rattle.lc_census.specs.declared.line_count.Count.{Count}
 use Rattle.lc_level.specs.Answers.{Item, file_item, directory_item, other_item, entry_of, name_of, Items, Answers}
-use Rattle.lc_level.specs.FaultLines.{FaultLineModel}
-use Rattle.lc_level.specs.Job.{JobModel}
-use Rattle.lc_level.specs.Level.{Reason, other_kind, Fate, counted, failed, walked, skipped, Level, faulted_level, listed_level, level}
-use Rattle.lc_level.specs.Level.{level_of, level_after, fate_of, file_fate, file_reason, reason_of, child_job}
-use Rattle.lc_level.specs.RuleFiles.{RuleBytes, rule_bytes}
-use Rattle.lc_level.specs.Filters.{FiltersModel, narrowed}
-use Rattle.lc_level.proofs.WellFormed.{IsGoodName, Spread}
-use Rattle.lc_tree.specs.declared.entry.Kind.{Kind}
-use Rattle.lc_tree.specs.declared.entry.Kind.TheVariants.{File, Dir, Other}
+use Rattle.lc_level.specs.{FaultLines.FaultLineModel, Job.JobModel, Level.{Reason, other_kind, Fate, counted, failed, walked, skipped}}
+use Rattle.lc_level.specs.Level.{Level, faulted_level, listed_level, level, level_of, level_after, fate_of, file_fate, file_reason}
+use Rattle.lc_level.specs.{Level.{reason_of, child_job}, RuleFiles.{RuleBytes, rule_bytes}, Filters.{FiltersModel, narrowed}}
 use Rattle.lc_level.specs.declared.fault_word.FaultWord.{FaultWord}
-use Rattle.lc_walk.proofs.Elements.{In}
-use Rattle.lc_walk.proofs.Levels.{IsOwnPlace, own_level_keeps}
+use Rattle.lc_level.proofs.WellFormed.{IsGoodName, Spread}
+use Rattle.lc_tree.specs.declared.entry.Kind.{Kind, TheVariants.{File, Dir, Other}}
+use Rattle.lc_walk.proofs.{Elements.In, Levels.{IsOwnPlace, own_level_keeps}}
 
 -- an entry of this kind may have such a fate
 abbrev pub IsFateOf : Fate → Kind → Type 0

@@ -2,33 +2,19 @@
 use Rattle.std.proofs.Common.{◌≡◌, ◌≢◌, ℕ, true, List, [], ◌∷◌, length, refl, sym, ◌∙◌, ap, subst, inl, inr, ◌⊎◌}
 use Rattle.std.specs.List.{Contains, AllByRecursion}
 use Rattle.lc_glob.specs.Path.{path_in, is_good_path}
-use Rattle.lc_level.specs.Answers.{Item, directory_item, entry_of, Answers, Tree}
-use Rattle.lc_level.specs.Job.{JobModel}
-use Rattle.lc_level.specs.Level.{FileLineModel, SkippedLineModel, Fate, counted, failed, skipped}
-use Rattle.lc_level.specs.Level.{fate_of, child_job}
-use Rattle.lc_level.specs.Narrowing.{part_of, takes_part}
-use Rattle.lc_level.specs.Filters.{FiltersModel, narrowed}
-use Rattle.lc_level.specs.WellFormed.{IsWellFormed}
-use Rattle.lc_level.proofs.AskedPaths.{all_take_part}
-use Rattle.lc_level.proofs.WellFormed.{IsGoodName}
-use Rattle.lc_tree.specs.declared.entry.Kind.{Kind}
-use Rattle.lc_tree.specs.declared.entry.Kind.TheVariants.{File, Dir}
-use Rattle.lc_level.specs.declared.fault_word.FaultWord.{FaultWord}
+use Rattle.lc_level.specs.{Answers.{Item, directory_item, entry_of, Answers, Tree}, Job.JobModel, Level.{FileLineModel, SkippedLineModel}}
+use Rattle.lc_level.specs.{Level.{Fate, counted, failed, skipped, fate_of, child_job}, Narrowing.{part_of, takes_part}}
+use Rattle.lc_level.specs.{Filters.{FiltersModel, narrowed}, WellFormed.IsWellFormed, declared.fault_word.FaultWord.FaultWord}
 use Rattle.lc_level.specs.declared.fault_word.FaultWord.TheVariants.{Absent}
-use Rattle.lc_walk.specs.Found.{Found, found_file, found_fault, found_directory, found_skipped}
-use Rattle.lc_walk.specs.FoundAt.{IsListed, WalksInto, LeadsTo, HasEntry, Gives, IsFoundIn}
-use Rattle.lc_walk.specs.GivenAnswers.{HasListings}
-use Rattle.lc_walk.specs.PartOfWalk.{IsWithin, EntryTakesPart, IsOnWay, IsFaultOnWay, ListsPath, IsPartOfWalk, PartOfWalkLaw, TwoWalksLaw}
-use Rattle.lc_walk.specs.PartOfWalk.{whole_walk, part_walk}
-use Rattle.lc_walk.proofs.AbsentPaths.{absent_asked}
-use Rattle.lc_walk.proofs.Elements.{In, is_in, contains}
-use Rattle.lc_walk.proofs.FoundByPlace.{found_law}
-use Rattle.lc_walk.proofs.Levels.{IsOwnPlace, well_formed_items}
-use Rattle.lc_walk.proofs.PartFates.{IsFateOf, fits, same_fate, same_fault, fault_at, spread_good}
-use Rattle.lc_walk.proofs.PartsOfTrees.{by_part, of_part}
-use Rattle.lc_walk.proofs.PathsWithin.{IsAtOrBelow, name_below, name_some, path_some, below_at, on_way_of_child, on_way_up}
-use Rattle.lc_walk.proofs.PathsWithin.{within_file, directory_takes, takes_on_way}
-use Rattle.lc_walk.proofs.SameWalks.{same_walk}
+use Rattle.lc_level.proofs.{AskedPaths.all_take_part, WellFormed.IsGoodName}
+use Rattle.lc_tree.specs.declared.entry.Kind.{Kind, TheVariants.{File, Dir}}
+use Rattle.lc_walk.specs.{Found.{Found, found_file, found_fault, found_directory, found_skipped}, FoundAt.{IsListed, WalksInto, LeadsTo}}
+use Rattle.lc_walk.specs.{FoundAt.{HasEntry, Gives, IsFoundIn}, GivenAnswers.HasListings, PartOfWalk.{IsWithin, EntryTakesPart, IsOnWay}}
+use Rattle.lc_walk.specs.PartOfWalk.{IsFaultOnWay, ListsPath, IsPartOfWalk, PartOfWalkLaw, TwoWalksLaw, whole_walk, part_walk}
+use Rattle.lc_walk.proofs.{AbsentPaths.absent_asked, Elements.{In, is_in, contains}, FoundByPlace.found_law, Levels.IsOwnPlace}
+use Rattle.lc_walk.proofs.{Levels.well_formed_items, PartFates.{IsFateOf, fits, same_fate, same_fault, fault_at, spread_good}}
+use Rattle.lc_walk.proofs.{PartsOfTrees.{by_part, of_part}, PathsWithin.{IsAtOrBelow, name_below, name_some, path_some, below_at}}
+use Rattle.lc_walk.proofs.{PathsWithin.{on_way_of_child, on_way_up, within_file, directory_takes, takes_on_way}, SameWalks.same_walk}
 use Rattle.lc_walk.proofs.TakingPart.{in_filter, of_filter}
 
 inside_path : (j inside : JobModel) (a : Answers) (items : List Item) → IsListed j a items inside → inside.path ≡ j.path

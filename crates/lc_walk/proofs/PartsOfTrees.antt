@@ -1,19 +1,14 @@
 -- Which entries and directories take part, by their paths.
-use Rattle.std.proofs.Common.{◌≡◌, ◌≢◌, ℕ, Bool, true, false, ◌&&◌, ◌||◌, List, [], ◌∷◌, ◌++◌, refl, sym, ◌∙◌, ap, inl, inr, ◌⊎◌}
-use Rattle.std.proofs.Common.{Option, Some, None, append_assoc, bytes_eq}
-use Rattle.std.proofs.lemmas.Bool.{and_from, and_parts, or_cases, or_left, or_right}
-use Rattle.std.specs.List.{Contains, list_any, AllByRecursion}
-use Rattle.std.specs.Option.{is_some}
-use Rattle.lc_glob.specs.Lists.{is_empty}
-use Rattle.lc_glob.specs.Path.{path_in, is_good_path}
+use Rattle.std.proofs.Common.{◌≡◌, ◌≢◌, ℕ, Bool, true, false, ◌&&◌, ◌||◌, List, [], ◌∷◌, ◌++◌, refl, sym, ◌∙◌, ap, inl, inr, ◌⊎◌, Option}
+use Rattle.std.proofs.{Common.{Some, None, append_assoc, bytes_eq}, lemmas.Bool.{and_from, and_parts, or_cases, or_left, or_right}}
+use Rattle.std.specs.{List.{Contains, list_any, AllByRecursion}, Option.is_some}
+use Rattle.lc_glob.specs.{Lists.is_empty, Path.{path_in, is_good_path}}
 use Rattle.lc_level.specs.Narrowing.{after, stands_below, rest_from, is_whole, leads_to, rests, takes_part}
-use Rattle.lc_level.proofs.AskedPaths.{after_is, after_front, rest_is, passes, any_seen, leads_once}
-use Rattle.lc_level.proofs.WellFormed.{IsGoodName, bytes_same, same_bytes}
-use Rattle.lc_tree.specs.Kinds.{is_dir}
-use Rattle.lc_tree.specs.Listing.{EntryModel}
+use Rattle.lc_level.proofs.{AskedPaths.{after_is, after_front, rest_is, passes, any_seen, leads_once}, WellFormed.{IsGoodName, bytes_same}}
+use Rattle.lc_level.proofs.WellFormed.{same_bytes}
+use Rattle.lc_tree.specs.{Kinds.is_dir, Listing.EntryModel}
 use Rattle.lc_walk.specs.PartOfWalk.{IsBelow, IsWithin, EntryTakesPart}
-use Rattle.lc_walk.proofs.Elements.{In, is_in, contains}
-use Rattle.lc_walk.proofs.PathsWithin.{within_child, child_within, within_some, path_more}
+use Rattle.lc_walk.proofs.{Elements.{In, is_in, contains}, PathsWithin.{within_child, child_within, within_some, path_more}}
 
 any_in : (p : List ℕ → Bool) (xs : List (List ℕ)) → list_any p xs ≡ true → (x : List ℕ) × In x xs × (p x ≡ true)
 any_in p [] e = cc

@@ -1,7 +1,6 @@
 -- Groups of paths of a directory, each at or below its own name.
-use Rattle.std.proofs.Common.{◌≡◌, ◌≢◌, ℕ, List, [], ◌∷◌, ◌++◌, map, sym, ◌∙◌, ap, append-nil}
+use Rattle.std.proofs.{Common.{◌≡◌, ◌≢◌, ℕ, List, [], ◌∷◌, ◌++◌, map, sym, ◌∙◌, ap, append-nil}, lemmas.List.append_cancel_left}
 use Rattle.std.specs.List.{flat_map, AllByRecursion}
-use Rattle.std.proofs.lemmas.List.{append_cancel_left}
 use Rattle.lc_tree.specs.Paths.{names_of_path}
 use Rattle.lc_board.proofs.Weights.{each-map, each-append}
 use Rattle.lc_walk.proofs.Distinct.{Distinct, distinct-append}

@@ -1,26 +1,16 @@
 -- No path stands twice in the lines of a report.
 use Rattle.std.proofs.Common.{◌≡◌, ◌≢◌, ℕ, Bool, true, false, cond, List, [], ◌∷◌, ◌++◌, map, refl, sym, ◌∙◌, ap, subst, IsPermutation}
-use Rattle.std.specs.List.{IsDistinct, AllByRecursion}
-use Rattle.std.specs.Ordering.{eq_by_cmp}
-use Rattle.std.proofs.lemmas.Cmp.{nat_list_cmp_total, eq_by_cmp_equiv}
-use Rattle.std.proofs.lemmas.List.Sorted.{IsPermutation-append, IsPermutation-map}
-use Rattle.std.proofs.lemmas.Map.Keys.{IsDistinct-IsPermutation}
-use Rattle.std.proofs.lemmas.Map.Text.{is_eq-slice_cmp}
+use Rattle.std.proofs.lemmas.{Cmp.{nat_list_cmp_total, eq_by_cmp_equiv}, List.Sorted.{IsPermutation-append, IsPermutation-map}}
+use Rattle.std.proofs.lemmas.Map.{Keys.IsDistinct-IsPermutation, Text.is_eq-slice_cmp}
+use Rattle.std.specs.{List.{IsDistinct, AllByRecursion}, Ordering.eq_by_cmp}
 use Rattle.lc_tree.specs.ByteOrder.{bytes_cmp, AreApart}
-use Rattle.lc_level.specs.FaultLines.{FaultLineModel}
+use Rattle.lc_level.specs.{FaultLines.FaultLineModel, Level.{SkippedLineModel, FileLineModel}}
 use Rattle.lc_level.proofs.WellFormed.{other_bytes, bytes_other}
 use Rattle.lc_board.proofs.Weights.{each-append}
-use Rattle.lc_walk.specs.Found.{Found, found_file, found_fault, found_directory, found_skipped, path_of}
-use Rattle.lc_walk.specs.Laws.{PathsOnceLaw}
-use Rattle.lc_walk.specs.ReportLines.{file_paths, fault_paths, skipped_paths}
-use Rattle.lc_walk.specs.RecursiveWalk.{walk_of}
-use Rattle.lc_walk.specs.FoundReports.{files_of, faults_of, skipped_lines_of, IsReportOf}
-use Rattle.lc_walk.specs.declared.options.ReportLists.{ReportLists}
-use Rattle.lc_walk.specs.declared.report.Report.{Report}
-use Rattle.lc_walk.proofs.Distinct.{Distinct, distinct-append, picked, picked_distinct, picked_apart}
-use Rattle.lc_walk.proofs.Listings.{flat_none}
-use Rattle.lc_walk.proofs.PathsOnce.{fine}
-use Rattle.lc_level.specs.Level.{SkippedLineModel, FileLineModel}
+use Rattle.lc_walk.specs.{Found.{Found, found_file, found_fault, found_directory, found_skipped, path_of}, Laws.PathsOnceLaw}
+use Rattle.lc_walk.specs.{ReportLines.{file_paths, fault_paths, skipped_paths}, RecursiveWalk.walk_of, FoundReports.{files_of, faults_of}}
+use Rattle.lc_walk.specs.{FoundReports.{skipped_lines_of, IsReportOf}, declared.{options.ReportLists.ReportLists, report.Report.Report}}
+use Rattle.lc_walk.proofs.{Distinct.{Distinct, distinct-append, picked, picked_distinct, picked_apart}, Listings.flat_none, PathsOnce.fine}
 
 apart_all : (x : List ℕ) (ys : List (List ℕ)) → AllByRecursion (λ y. x ≢ y) ys → AllByRecursion (λ y. eq_by_cmp bytes_cmp x y ≡ false) ys
 apart_all x [] a = tt

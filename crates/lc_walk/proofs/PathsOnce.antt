@@ -1,40 +1,25 @@
 -- No path stands twice in a walk of a tree whose listings are well-formed.
-use Rattle.std.proofs.Common.{◌≡◌, ◌≢◌, ℕ, zero, suc, not, Bool, true, false, cond, List, [], ◌∷◌, ◌++◌, map, refl, sym, ◌∙◌, ap}
-use Rattle.std.proofs.Common.{◌&&◌, length, subst, inl, inr, Option, Some, None, Result, Ok, Err, append_assoc, append-nil, bytes_eq}
-use Rattle.std.proofs.lemmas.Bool.{or_parts}
-use Rattle.std.specs.List.{flat_map, AllByRecursion}
-use Rattle.std.specs.Option.{is_none, option_map_or}
-use Rattle.std.proofs.lemmas.Grind.{flat_map-append}
-use Rattle.std.proofs.lemmas.List.{map-append}
+use Rattle.std.proofs.Common.{◌≡◌, ◌≢◌, ℕ, zero, suc, not, Bool, true, false, cond, List, [], ◌∷◌, ◌++◌, map, refl, sym, ◌∙◌, ap, ◌&&◌}
+use Rattle.std.proofs.Common.{length, subst, inl, inr, Option, Some, None, Result, Ok, Err, append_assoc, append-nil, bytes_eq}
+use Rattle.std.proofs.lemmas.{Bool.or_parts, Grind.flat_map-append, List.map-append}
+use Rattle.std.specs.{List.{flat_map, AllByRecursion}, Option.{is_none, option_map_or}}
 use Rattle.lc_census.specs.declared.line_count.Count.{Count}
-use Rattle.lc_tree.specs.declared.entry.Kind.TheVariants.{File, Dir, Other}
-use Rattle.lc_level.specs.declared.fault_word.FaultWord.{FaultWord}
+use Rattle.lc_tree.specs.{declared.entry.Kind.TheVariants.{File, Dir, Other}, Kinds.is_dir, Paths.names_of_path}
+use Rattle.lc_level.specs.{declared.fault_word.FaultWord.FaultWord, Answers.{Item, file_item, directory_item, other_item, Tree, entry_of}}
+use Rattle.lc_level.specs.{Answers.name_of, Job.JobModel, RuleFiles.extended, Level.{Reason, other_kind, Fate, walked, skipped}}
+use Rattle.lc_level.specs.Level.{level_of_items, file_reason, reason_of, is_counted, is_taken, child_job, fate_of, file_fate}
+use Rattle.lc_level.specs.{Level.{listed_level, walked_in, fates_of}, Narrowing.{stands_below, leads_to, part_of, absent_from}}
+use Rattle.lc_level.specs.{Filters.FiltersModel, WellFormed.IsWellFormed}
 use Rattle.lc_glob.specs.Path.{path_in, segments_of}
-use Rattle.lc_tree.specs.Kinds.{is_dir}
-use Rattle.lc_tree.specs.Paths.{names_of_path}
-use Rattle.lc_level.specs.Answers.{Item, file_item, directory_item, other_item, Tree, entry_of, name_of}
-use Rattle.lc_level.specs.Job.{JobModel}
-use Rattle.lc_level.specs.RuleFiles.{extended}
-use Rattle.lc_level.specs.Level.{Reason, other_kind, Fate, walked, skipped, level_of_items, file_reason, reason_of, is_counted, is_taken}
-use Rattle.lc_level.specs.Level.{child_job}
-use Rattle.lc_level.specs.Level.{fate_of, file_fate}
-use Rattle.lc_level.specs.Level.{listed_level, walked_in, fates_of}
-use Rattle.lc_level.specs.Narrowing.{stands_below, leads_to, part_of, absent_from}
-use Rattle.lc_level.specs.Filters.{FiltersModel}
 use Rattle.lc_walk.specs.Found.{Found, found_directory, found_absent, path_of, found_by, found_of, found_at, children_of, children_at}
 use Rattle.lc_walk.specs.RecursiveWalk.{walks_below, walk_by}
-use Rattle.lc_level.specs.WellFormed.{IsWellFormed}
 use Rattle.lc_board.proofs.Weights.{each-map, each-append}
-use Rattle.lc_level.proofs.WellFormed.{IsGoodName, Spread, bytes_other}
-use Rattle.lc_walk.proofs.AbsentPaths.{names_of_rest, not_below, not_above, rests_apart, NoneLeads}
-use Rattle.lc_walk.proofs.AbsentPaths.{absent_distinct, absent_asked, absent_leads}
-use Rattle.lc_walk.proofs.Distinct.{Distinct, distinct-append, picked, each_picked, picked_distinct, picked_apart}
-use Rattle.lc_walk.proofs.Levels.{IsOwnPlace, own_level_keeps, well_formed_items, IsChild, each_child}
+use Rattle.lc_level.proofs.{WellFormed.{IsGoodName, Spread, bytes_other}, PathNames.one_name, Fates.{children_by, walked_items_are}}
+use Rattle.lc_walk.proofs.AbsentPaths.{names_of_rest, not_below, not_above, rests_apart, NoneLeads, absent_distinct, absent_asked}
+use Rattle.lc_walk.proofs.{AbsentPaths.absent_leads, Distinct.{Distinct, distinct-append, picked, each_picked, picked_distinct}}
+use Rattle.lc_walk.proofs.{Distinct.picked_apart, Levels.{IsOwnPlace, own_level_keeps, well_formed_items, IsChild, each_child}}
 use Rattle.lc_walk.proofs.PathGroups.{Below, Under, Group, IsGroup, groups_distinct, groups_below, groups_above}
-use Rattle.lc_level.proofs.PathNames.{one_name}
-use Rattle.lc_walk.proofs.Places.{names_of_path-path_in}
-use Rattle.lc_walk.proofs.TakingPart.{each_filter, spread_part}
-use Rattle.lc_level.proofs.Fates.{children_by, walked_items_are}
+use Rattle.lc_walk.proofs.{Places.names_of_path-path_in, TakingPart.{each_filter, spread_part}}
 
 -- ---- which items are walked
 

@@ -1,13 +1,10 @@
 -- Paths below, within and above others.
 use Rattle.std.proofs.Common.{◌≡◌, ◌≢◌, ℕ, ◌==◌, true, false, List, [], ◌∷◌, ◌++◌, refl, sym, ◌∙◌, ap, subst, inl, inr, ◌⊎◌, append_assoc}
-use Rattle.std.proofs.Common.{eq-eqb}
+use Rattle.std.proofs.{Common.eq-eqb, lemmas.List.append_cancel_left}
 use Rattle.std.specs.List.{Contains, AllByRecursion}
-use Rattle.std.proofs.lemmas.List.{append_cancel_left}
 use Rattle.lc_glob.specs.Path.{path_in, is_good_path}
 use Rattle.lc_level.proofs.WellFormed.{IsGoodName, clash}
-use Rattle.lc_tree.specs.Kinds.{is_dir}
-use Rattle.lc_tree.specs.declared.entry.Kind.{Kind}
-use Rattle.lc_tree.specs.declared.entry.Kind.TheVariants.{File, Dir}
+use Rattle.lc_tree.specs.{Kinds.is_dir, declared.entry.Kind.{Kind, TheVariants.{File, Dir}}}
 use Rattle.lc_walk.specs.PartOfWalk.{IsBelow, IsWithin, IsAbove, EntryTakesPart, IsOnWay}
 use Rattle.lc_walk.proofs.Elements.{In, is_in}
 

@@ -1,25 +1,15 @@
 -- Lawful rows in place make a tree.
 use Rattle.std.proofs.Common.{◌≡◌, ◌≢◌, ℕ, zero, suc, Bool, List, [], slice_get, sym, ◌∙◌, ap, arith, subst, Some, ◌⊎◌, inl, inr}
-use Rattle.lc_board.specs.State.{Absent, status}
-use Rattle.lc_board.specs.LegalHistory.{posts_under}
-use Rattle.lc_board.specs.declared.event.Event.{Event}
-use Rattle.lc_board.specs.declared.answers.Ended.{Ended}
 use Rattle.std.proofs.lemmas.Option.{slice_get_within}
+use Rattle.lc_board.specs.{State.{Absent, status}, LegalHistory.posts_under, declared.{event.Event.Event, answers.Ended.Ended}}
 use Rattle.lc_glob.specs.Path.{path_in}
-use Rattle.lc_level.specs.Answers.{Answers}
-use Rattle.lc_level.specs.Job.{JobModel}
-use Rattle.lc_walk.specs.Found.{children_at}
-use Rattle.lc_walk.specs.RowViews.{ChildModel}
-use Rattle.lc_walk.specs.Rows.{row_of, job_of, children_in}
-use Rattle.lc_walk.specs.Lawful.{Asked, named}
-use Rattle.lc_walk.specs.TreeOfRows.{children_at_row}
-use Rattle.lc_walk.specs.ClosedWalks.{Walked, AreWhole}
-use Rattle.lc_walk.specs.Assembled.{IsLinkedOnce, IsPlaced}
+use Rattle.lc_level.specs.{Answers.Answers, Job.JobModel}
+use Rattle.lc_walk.specs.{Found.children_at, RowViews.ChildModel, Rows.{row_of, job_of, children_in}, Lawful.{Asked, named}}
+use Rattle.lc_walk.specs.{TreeOfRows.children_at_row, ClosedWalks.{Walked, AreWhole}, Assembled.{IsLinkedOnce, IsPlaced}}
 use Rattle.lc_walk.specs.declared.row.Row.{Row}
-use Rattle.lc_board.proofs.PostedNumbers.{start}
-use Rattle.lc_walk.proofs.WalkOfRows.{row_here, job_or, job_at, inside, there, job_at_top, own_jobs, fits}
-use Rattle.lc_board.proofs.Parents.{IsIn, parent, one_parent, posts_once, posted_above}
-use Rattle.lc_walk.proofs.ChildPlaces.{child_posted, one_place, posted_child}
+use Rattle.lc_board.proofs.{PostedNumbers.start, Parents.{IsIn, parent, one_parent, posts_once, posted_above}}
+use Rattle.lc_walk.proofs.{WalkOfRows.{row_here, job_or, job_at, inside, there, job_at_top, own_jobs, fits}, ChildPlaces.child_posted}
+use Rattle.lc_walk.proofs.ChildPlaces.{one_place, posted_child}
 
 module _ (ask : Asked) (full : Bool) (capacity workers : ℕ) (top : JobModel) (h : List (Event JobModel Row)) (rows : List (Ended Row))
     (answers : ℕ → Answers)

@@ -1,20 +1,13 @@
 -- What posts leave of a pass.
-use Rattle.std.proofs.Common.{◌≡◌, ℕ, zero, suc, ◌<◌, List, [], ◌∷◌, ◌++◌, length, take, refl, sym, ◌∙◌, ap, subst, Ok, Err}
-use Rattle.std.proofs.Common.{append_assoc, append-nil, arith}
+use Rattle.std.proofs.Common.{◌≡◌, ℕ, zero, suc, ◌<◌, List, [], ◌∷◌, ◌++◌, length, take, refl, sym, ◌∙◌, ap, subst, Ok, Err, append_assoc}
+use Rattle.std.proofs.{Common.{append-nil, arith}, lemmas.List.{length-append, length-map, map-append}, Math.Seq.take-append_seam}
 use Rattle.std.specs.List.{AllByRecursion}
-use Rattle.std.proofs.lemmas.List.{length-append, length-map, map-append}
-use Rattle.std.proofs.Math.Seq.{take-append_seam}
-use Rattle.lc_board.specs.Holding as events
-use Rattle.lc_board.specs.Pass.{Pass, held_number, adding, filled}
-use Rattle.lc_board.specs.declared.event.Event.{Event}
+use Rattle.lc_board.specs.{Pass.{Pass, held_number, adding, filled}, declared.event.Event.Event}
 use Rattle.lc_board.specs.declared.event.Event.TheVariants.{Post, Claim, Return, Fault, Over}
 use Rattle.lc_level.specs.Job.{JobModel}
-use Rattle.lc_walk.specs.Lawful.{jobs_of, named}
-use Rattle.lc_walk.specs.Posting.{IsPost, HasPosted, RefusesPost, PostsMore}
-use Rattle.lc_walk.specs.RowViews.{ChildModel}
-use Rattle.lc_walk.specs.declared.broken_cause.BrokenCause.{BrokenCause}
-use Rattle.lc_walk.specs.declared.broken_cause.BrokenCause.TheVariants.{Memory, TooManyDirs, TooDeep}
-use Rattle.lc_walk.specs.declared.row.Row.{Row}
+use Rattle.lc_walk.specs.{Lawful.{jobs_of, named}, Posting.{IsPost, HasPosted, RefusesPost, PostsMore}, RowViews.ChildModel}
+use Rattle.lc_walk.specs.declared.{broken_cause.BrokenCause.{BrokenCause, TheVariants.{Memory, TooManyDirs, TooDeep}}, row.Row.Row}
+use Rattle.lc_board.specs.Holding as events
 
 abbrev Events : Type 0
 Events = List (Event JobModel Row)

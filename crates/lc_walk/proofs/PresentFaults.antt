@@ -1,36 +1,23 @@
 -- No answer of a tree is that a path is absent.
 use Rattle.std.proofs.Common.{◌≡◌, ◌≢◌, ℕ, zero, suc, Bool, true, false, cond, List, [], ◌∷◌, refl, sym, ◌∙◌, ap, subst, Option, Some}
 use Rattle.std.proofs.Common.{None, Result, Ok, Err, codes, bytes_eq, ◌⊎◌, inl, inr}
-use Rattle.std.specs.List.{AllByRecursion}
-use Rattle.std.specs.Option.{option_map_or}
+use Rattle.std.specs.{List.AllByRecursion, Option.option_map_or}
 use Rattle.lc_board.proofs.Weights.{each-append}
 use Rattle.lc_census.specs.declared.line_count.Count.{Count}
 use Rattle.lc_glob.specs.Path.{path_in}
-use Rattle.lc_level.specs.Answers.{Item, file_item, directory_item, other_item, entry_of, Items, Answers, Tree}
-use Rattle.lc_level.specs.FaultLines.{FaultLineModel}
-use Rattle.lc_level.specs.FaultWords.{fault_word_of}
-use Rattle.lc_level.specs.FileReads.{MayCount, MayReadRules}
-use Rattle.lc_level.specs.Job.{JobModel}
-use Rattle.lc_level.specs.Level.{Fate, counted, failed, walked, skipped, Reason, other_kind, Level, faulted_level, listed_level, level}
-use Rattle.lc_level.specs.Level.{level_of, level_after, fates_of, file_fate, file_reason, reason_of, child_job}
-use Rattle.lc_level.specs.Narrowing.{part_of, takes_part}
+use Rattle.lc_level.specs.{Answers.{Item, file_item, directory_item, other_item, entry_of, Items, Answers, Tree}, FaultLines.FaultLineModel}
+use Rattle.lc_level.specs.{FaultWords.fault_word_of, FileReads.{MayCount, MayReadRules}, Job.JobModel, Level.{Fate, counted, failed}}
+use Rattle.lc_level.specs.Level.{walked, skipped, Reason, other_kind, Level, faulted_level, listed_level, level, level_of, level_after}
+use Rattle.lc_level.specs.{Level.{fates_of, file_fate, file_reason, reason_of, child_job}, Narrowing.{part_of, takes_part}}
 use Rattle.lc_level.specs.RuleFiles.{RuleBytes, file_named, ignore_named, has_directory, has_git, and_then, reading, listing, both_read}
-use Rattle.lc_level.specs.RuleFiles.{info_items, info_bytes, own_bytes, rule_bytes, extended}
-use Rattle.lc_level.specs.Filters.{FiltersModel}
-use Rattle.lc_level.specs.TreeAnswers.{MayHave, MayList, MayAnswer, items_of}
-use Rattle.lc_tree.specs.Trees.{Listings, Contents}
-use Rattle.lc_tree.specs.declared.entry.Kind.{Kind}
-use Rattle.lc_tree.specs.declared.entry.Kind.TheVariants.{File, Dir, Other}
+use Rattle.lc_level.specs.{RuleFiles.{info_items, info_bytes, own_bytes, rule_bytes, extended}, Filters.FiltersModel, TreeAnswers.MayHave}
+use Rattle.lc_level.specs.{TreeAnswers.{MayList, MayAnswer, items_of}, declared.fault_word.FaultWord.FaultWord}
+use Rattle.lc_tree.specs.{Trees.{Listings, Contents}, declared.entry.Kind.{Kind, TheVariants.{File, Dir, Other}}}
 use Rattle.lc_tree.specs.declared.read_fault.ReadFault.{ReadFault}
+use Rattle.lc_walk.specs.{Found.children_at, FoundAt.LeadsTo, RecursiveWalk.{walks_below, walk_by}}
+use Rattle.lc_walk.proofs.{Elements.In, FoundByPlace.child_by_level, TakingPart.each_filter}
 use Rattle.lc_tree.specs.declared.read_fault.ReadFault.TheVariants as read_fault
-use Rattle.lc_level.specs.declared.fault_word.FaultWord.{FaultWord}
 use Rattle.lc_level.specs.declared.fault_word.FaultWord.TheVariants as word
-use Rattle.lc_walk.specs.Found.{children_at}
-use Rattle.lc_walk.specs.FoundAt.{LeadsTo}
-use Rattle.lc_walk.specs.RecursiveWalk.{walks_below, walk_by}
-use Rattle.lc_walk.proofs.Elements.{In}
-use Rattle.lc_walk.proofs.FoundByPlace.{child_by_level}
-use Rattle.lc_walk.proofs.TakingPart.{each_filter}
 
 -- a word is another than that of what is absent
 abbrev pub IsOther : FaultWord → Type 0

@@ -1,12 +1,8 @@
 -- The numbers that a walk of a history's tree reaches: each once.
 use Rattle.std.proofs.Common.{◌≡◌, ◌≢◌, ℕ, zero, suc, ◌+◌, ◌<◌, ◌≤◌, ◌==◌, Bool, true, false, cond, List, [], ◌∷◌, ◌++◌, refl, sym, ◌∙◌}
-use Rattle.std.proofs.Common.{ap, arith, ◌⊎◌, inl, inr}
-use Rattle.std.proofs.lemmas.Bool.{eqb-true, cases_lt}
+use Rattle.std.proofs.{Common.{ap, arith, ◌⊎◌, inl, inr}, lemmas.Bool.{eqb-true, cases_lt}}
 use Rattle.std.specs.List.{flat_map}
-use Rattle.lc_board.specs.State.{Absent, status}
-use Rattle.lc_board.specs.LegalHistory.{posts_under, IsLegal}
-use Rattle.lc_board.specs.Numbers.{HasNumbers}
-use Rattle.lc_board.specs.declared.event.Event.{Event}
+use Rattle.lc_board.specs.{State.{Absent, status}, LegalHistory.{posts_under, IsLegal}, Numbers.HasNumbers, declared.event.Event.Event}
 use Rattle.lc_walk.specs.TreeOfRows.{numbers_below}
 use Rattle.lc_board.proofs.Weights.{weigh, weigh-append, weigh-sum, weigh-flat_map, weigh-on, each-map, only, only_same, times}
 use Rattle.lc_board.proofs.PostedNumbers.{numbers, all_present, within, below, counted_twice, Known, known, start, once, not_among}

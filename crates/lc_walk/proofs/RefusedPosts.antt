@@ -1,20 +1,13 @@
 -- What is lawful where posts may have been refused is so wherever they may have been.
 use Rattle.std.proofs.Common.{◌≡◌, ℕ, suc, Bool, true, false, ◌||◌, List, [], ◌∷◌, ◌++◌, refl, slice_get, Option, Some}
 use Rattle.std.specs.List.{list_any}
-use Rattle.lc_board.specs.Holding.{job_held, posts_held}
-use Rattle.lc_board.specs.Pass.{Pass}
-use Rattle.lc_board.specs.declared.event.Event.{Event}
-use Rattle.lc_board.specs.declared.event.Event.TheVariants.{Post, Claim, Return, Fault, Over}
-use Rattle.lc_board.specs.declared.answers.Ended.{Ended}
+use Rattle.lc_board.specs.{Holding.{job_held, posts_held}, Pass.Pass}
+use Rattle.lc_board.specs.declared.{event.Event.{Event, TheVariants.{Post, Claim, Return, Fault, Over}}, answers.Ended.Ended}
+use Rattle.lc_level.specs.{Answers.Answers, Job.JobModel}
+use Rattle.lc_walk.specs.{Lawful.{Asked, Says, IsCause}, WorkerResults.{IsLawfulEnd, AreLawfulSince}}
+use Rattle.lc_walk.specs.declared.broken_cause.BrokenCause.{BrokenCause, TheVariants.{Memory, TooManyDirs, TooDeep}}
+use Rattle.lc_walk.specs.declared.row.Row.{Row, TheVariants.{Listed, Faulted, Broken}}
 use Rattle.lc_board.specs.declared.answers.Ended.TheVariants as ended
-use Rattle.lc_level.specs.Answers.{Answers}
-use Rattle.lc_level.specs.Job.{JobModel}
-use Rattle.lc_walk.specs.Lawful.{Asked, Says, IsCause}
-use Rattle.lc_walk.specs.WorkerResults.{IsLawfulEnd, AreLawfulSince}
-use Rattle.lc_walk.specs.declared.broken_cause.BrokenCause.{BrokenCause}
-use Rattle.lc_walk.specs.declared.broken_cause.BrokenCause.TheVariants.{Memory, TooManyDirs, TooDeep}
-use Rattle.lc_walk.specs.declared.row.Row.{Row}
-use Rattle.lc_walk.specs.declared.row.Row.TheVariants.{Listed, Faulted, Broken}
 
 -- some pass was answered Full
 pub record SomeFull (passes : List (Pass JobModel Row)) : Type 0 where

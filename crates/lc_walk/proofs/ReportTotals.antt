@@ -1,50 +1,26 @@
 -- The totals of a report are the sums of its rows and of its files.
 use Rattle.std.proofs.Common.{◌≡◌, ℕ, zero, suc, ◌+◌, ◌-◌, ◌<◌, ◌==◌, Bool, true, false, not, cond, List, [], ◌∷◌, ◌++◌, length, map}
-use Rattle.std.proofs.Common.{drop, get_or, refl, sym, ◌∙◌, ap, ap₂, subst, arith, append_assoc, length-append, IsPermutation}
-use Rattle.std.proofs.Common.{Option, Some, None, Result, Ok, Err}
-use Rattle.std.specs.List.{AllByRecursion, after_last, filter, flat_map, suffix_len, sum_by}
-use Rattle.std.specs.Option.{option_map_or}
-use Rattle.std.proofs.Math.Seq.{drop-append_seam}
-use Rattle.std.proofs.lemmas.List.{get_or-append-add, get_or_append_left}
-use Rattle.std.proofs.lemmas.List.Sorted.{IsPermutation-map}
-use Rattle.std.proofs.lemmas.List.Sums.{sum_by-cons, suffix_len_is}
+use Rattle.std.proofs.Common.{drop, get_or, refl, sym, ◌∙◌, ap, ap₂, subst, arith, append_assoc, length-append, IsPermutation, Option}
+use Rattle.std.proofs.{Common.{Some, None, Result, Ok, Err}, Math.Seq.drop-append_seam, lemmas.List.{get_or-append-add, get_or_append_left}}
+use Rattle.std.proofs.lemmas.List.{Sorted.IsPermutation-map, Sums.{sum_by-cons, suffix_len_is}}
+use Rattle.std.specs.{List.{AllByRecursion, after_last, filter, flat_map, suffix_len, sum_by}, Option.option_map_or}
 use Rattle.lc_board.proofs.Weights.{each-append}
 use Rattle.lc_census.specs.declared.line_count.Count.{Count}
-use Rattle.lc_glob.specs.Bytes.{slash}
-use Rattle.lc_glob.specs.Path.{path_in}
-use Rattle.lc_glob.specs.Pieces.{is_byte}
-use Rattle.lc_level.specs.Answers.{Item, file_item, directory_item, other_item, Answers, name_of}
-use Rattle.lc_level.specs.Filters.{FiltersModel}
-use Rattle.lc_level.specs.Job.{JobModel}
-use Rattle.lc_level.specs.Level.{Fate, Reason, counted, failed, walked, skipped, other_kind, child_job, file_fate, file_reason}
-use Rattle.lc_level.specs.Level.{fate_of, fates_of, file_below, reason_of}
-use Rattle.lc_level.specs.Narrowing.{part_of, absent_from}
-use Rattle.lc_level.specs.RuleFiles.{extended}
-use Rattle.lc_level.specs.WellFormed.{IsWellFormed}
-use Rattle.lc_level.specs.declared.fault_word.FaultWord.{FaultWord}
+use Rattle.lc_glob.specs.{Bytes.slash, Path.path_in, Pieces.is_byte}
+use Rattle.lc_level.specs.{Answers.{Item, file_item, directory_item, other_item, Answers, name_of}, Filters.FiltersModel, Job.JobModel}
+use Rattle.lc_level.specs.Level.{Fate, Reason, counted, failed, walked, skipped, other_kind, child_job, file_fate, file_reason, fate_of}
+use Rattle.lc_level.specs.{Level.{fates_of, file_below, reason_of}, Narrowing.{part_of, absent_from}, RuleFiles.extended}
+use Rattle.lc_level.specs.{WellFormed.IsWellFormed, declared.fault_word.FaultWord.FaultWord}
 use Rattle.lc_level.proofs.WellFormed.{IsGoodName, Spread}
-use Rattle.lc_tree.specs.Trees.{Listings, Contents}
-use Rattle.lc_tree.specs.declared.entry.Kind.{Kind}
-use Rattle.lc_tree.specs.declared.entry.Kind.TheVariants.{File, Dir, Other}
-use Rattle.lc_walk.proofs.Joining.{tally_permuted, sums_permuted}
-use Rattle.lc_walk.proofs.Levels.{level_keeps, well_formed_part}
-use Rattle.lc_walk.proofs.PresentFaults.{each_led}
-use Rattle.lc_walk.proofs.RowSums.{same_sums}
-use Rattle.lc_walk.proofs.RowTrees.{by_answers}
-use Rattle.lc_walk.proofs.Totals.{same_totals}
-use Rattle.lc_walk.specs.Extension.{extension_of}
-use Rattle.lc_walk.specs.Found.{Found, found_file, found_fault, found_directory, found_skipped, found_absent, found_at, found_by, found_of}
-use Rattle.lc_walk.specs.FoundReports.{IsReportOf, files_of, tallied, tallied_of}
-use Rattle.lc_walk.specs.Key.{same_key}
-use Rattle.lc_walk.specs.ReportTotals.{ReportTotalsLaw, TotalsAddUp, counted_line}
-use Rattle.lc_walk.specs.Sums.{one_file}
-use Rattle.lc_walk.specs.Tally.{CountedFile, IsTally, counted as counted_file, files_with, key_of, sums_of_files}
-use Rattle.lc_walk.specs.TallyRows.{TallyRowModel, row_with, sums_of_rows}
-use Rattle.lc_walk.specs.WalkOptions.{asked_by, top_of}
-use Rattle.lc_walk.specs.Walks.{Walks}
-use Rattle.lc_walk.specs.declared.options.Options.{Options}
-use Rattle.lc_walk.specs.declared.options.ReportLists.{ReportLists}
-use Rattle.lc_walk.specs.declared.report.Report.{Report}
+use Rattle.lc_tree.specs.{Trees.{Listings, Contents}, declared.entry.Kind.{Kind, TheVariants.{File, Dir, Other}}}
+use Rattle.lc_walk.proofs.{Joining.{tally_permuted, sums_permuted}, Levels.{level_keeps, well_formed_part}, PresentFaults.each_led}
+use Rattle.lc_walk.proofs.{RowSums.same_sums, RowTrees.by_answers, Totals.same_totals}
+use Rattle.lc_walk.specs.{Extension.extension_of, Found.{Found, found_file, found_fault, found_directory, found_skipped, found_absent}}
+use Rattle.lc_walk.specs.{Found.{found_at, found_by, found_of}, FoundReports.{IsReportOf, files_of, tallied, tallied_of}, Key.same_key}
+use Rattle.lc_walk.specs.{ReportTotals.{ReportTotalsLaw, TotalsAddUp, counted_line}, Sums.one_file, Tally.{CountedFile, IsTally}}
+use Rattle.lc_walk.specs.{Tally.{counted as counted_file, files_with, key_of, sums_of_files}, TallyRows.{TallyRowModel, row_with}}
+use Rattle.lc_walk.specs.{TallyRows.sums_of_rows, WalkOptions.{asked_by, top_of}, Walks.Walks}
+use Rattle.lc_walk.specs.declared.{options.{Options.Options, ReportLists.ReportLists}, report.Report.Report}
 
 -- ---- the sums of a tally
 

@@ -1,47 +1,24 @@
 -- The rows by which a worker ends its claims are lawful.
-use Rattle.std.proofs.Common.{◌≡◌, ℕ, ◌<◌, false, List, [], ◌++◌, length, map, take}
-use Rattle.std.proofs.Common.{cond, refl, sym, ◌∙◌, ap, subst, Option, Some, None, Result, Ok}
-use Rattle.std.proofs.Common.{Err, inl, arith}
-use Rattle.std.proofs.Math.Seq.{take-length}
-use Rattle.std.proofs.lemmas.List.{length-map, length-take-le}
+use Rattle.std.proofs.Common.{◌≡◌, ℕ, ◌<◌, false, List, [], ◌++◌, length, map, take, cond, refl, sym, ◌∙◌, ap, subst, Option, Some, None}
+use Rattle.std.proofs.{Common.{Result, Ok, Err, inl, arith}, Math.Seq.take-length, lemmas.List.{length-map, length-take-le}}
 use Rattle.std.proofs.lemmas.List.Sorted.{IsPermutation-append_comm}
 use Rattle.std.specs.declared.alloc.AllocError.{AllocError}
-use Rattle.lc_board.specs.Holding.{job_held, posts_held}
-use Rattle.lc_board.specs.Pass.{Pass, after_give, after_fault}
-use Rattle.lc_board.specs.declared.answers.Ended.TheVariants as ended
+use Rattle.lc_board.specs.{Holding.{job_held, posts_held}, Pass.{Pass, after_give, after_fault}}
 use Rattle.lc_tree.specs.Trees.{Listings, Contents}
-use Rattle.lc_level.specs.declared.fault_word.FaultWord.{FaultWord}
-use Rattle.lc_level.specs.Answers.{Answers}
-use Rattle.lc_level.specs.CountedNames.{IsCounted}
-use Rattle.lc_level.specs.Deep.{has_too_deep}
-use Rattle.lc_level.specs.Job.{JobModel}
-use Rattle.lc_level.specs.Classified.{bytes_of}
-use Rattle.lc_level.specs.Laws.{parts_with}
-use Rattle.lc_level.specs.Level.{IsLevelOf, level, walked_in}
-use Rattle.lc_level.specs.Opens.{IsOpened, OpensLevel}
-use Rattle.lc_level.specs.WellFormed.{IsWellFormed}
-use Rattle.lc_level.specs.TreeAnswers.{MayAnswer}
-use Rattle.lc_level.proofs.CountedLevels.{opened_level, counted_level}
-use Rattle.lc_level.proofs.SomeAnswers.{HasAnswers}
-use Rattle.lc_walk.specs.Found.{children_of, children_at}
-use Rattle.lc_walk.specs.Lawful.{Asked, IsCause, jobs_of, named, counted_files, files_at}
-use Rattle.lc_walk.specs.Posting.{HasPosted, RefusesPost}
-use Rattle.lc_walk.specs.RowViews.{ListedRowModel}
-use Rattle.lc_walk.specs.Serving.{HoldsJob, BreaksOff, AddsFiles, WorksOn, Serves}
-use Rattle.lc_walk.specs.Tally.{TallyModel, CountedFile, StandsFor}
-use Rattle.lc_walk.specs.FoundReports.{tallied}
-use Rattle.lc_walk.specs.WorkerResults.{IsLawfulEnd}
-use Rattle.lc_walk.proofs.Joining.{stands_permuted}
-use Rattle.lc_walk.proofs.Posted.{posts_come, job_stays}
-use Rattle.lc_walk.proofs.Working.{works_posts, works_give, works_fault, serves_broken, then_serves}
-use Rattle.lc_walk.specs.declared.broken_cause.BrokenCause.{BrokenCause}
-use Rattle.lc_walk.specs.declared.broken_cause.BrokenCause.TheVariants.{Memory, TooManyDirs, TooDeep}
-use Rattle.lc_level.specs.declared.counting.CountedFiles.{CountedFiles}
-use Rattle.lc_level.specs.declared.opening.Opened.{Opened}
-use Rattle.lc_level.specs.declared.fault_site.FaultSite.{FaultSite}
+use Rattle.lc_level.specs.declared.{fault_word.FaultWord.FaultWord, counting.CountedFiles.CountedFiles, opening.Opened.Opened}
+use Rattle.lc_level.specs.{declared.fault_site.FaultSite.FaultSite, Answers.Answers, CountedNames.IsCounted, Deep.has_too_deep}
+use Rattle.lc_level.specs.{Job.JobModel, Classified.bytes_of, Laws.parts_with, Level.{IsLevelOf, level, walked_in}, Opens.IsOpened}
+use Rattle.lc_level.specs.{Opens.OpensLevel, WellFormed.IsWellFormed, TreeAnswers.MayAnswer}
+use Rattle.lc_level.proofs.{CountedLevels.{opened_level, counted_level}, SomeAnswers.HasAnswers}
+use Rattle.lc_walk.specs.{Found.{children_of, children_at}, Lawful.{Asked, IsCause, jobs_of, named, counted_files, files_at}}
+use Rattle.lc_walk.specs.{Posting.{HasPosted, RefusesPost}, RowViews.ListedRowModel, Serving.{HoldsJob, BreaksOff, AddsFiles, WorksOn}}
+use Rattle.lc_walk.specs.{Serving.Serves, Tally.{TallyModel, CountedFile, StandsFor}, FoundReports.tallied, WorkerResults.IsLawfulEnd}
+use Rattle.lc_walk.specs.declared.broken_cause.BrokenCause.{BrokenCause, TheVariants.{Memory, TooManyDirs, TooDeep}}
+use Rattle.lc_walk.specs.declared.row.Row.{Row, TheVariants.{Listed, Faulted, Broken}}
+use Rattle.lc_walk.proofs.{Joining.stands_permuted, Posted.{posts_come, job_stays}, Working.{works_posts, works_give, works_fault}}
+use Rattle.lc_walk.proofs.Working.{serves_broken, then_serves}
+use Rattle.lc_board.specs.declared.answers.Ended.TheVariants as ended
 use Rattle.lc_level.specs.declared.open_fault.OpenFault.TheVariants as open_fault
-use Rattle.lc_walk.specs.declared.row.Row.{Row}
-use Rattle.lc_walk.specs.declared.row.Row.TheVariants.{Listed, Faulted, Broken}
 
 module _ (ask : Asked) (lists : List ℕ → Listings) (gives : List ℕ → Contents) where
   abbrev Lawful : Pass JobModel Row → JobModel → BrokenCause → Answers → Type 0

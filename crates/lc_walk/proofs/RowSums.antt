@@ -1,19 +1,11 @@
 -- The sums of rows.
-use Rattle.std.proofs.Common.{◌≡◌, ℕ, ◌+◌, ◌<◌, Bool, List, [], ◌∷◌, ◌++◌, refl, sym, ◌∙◌, ap, arith, length, subst}
-use Rattle.std.proofs.Common.{length-append, zero-add}
-use Rattle.std.specs.List.{filter, sum_by, All}
-use Rattle.std.specs.List.Sorted.{IsPermutation}
-use Rattle.std.specs.declared.cmp.Ordering.TheVariants.{Equal}
-use Rattle.std.proofs.lemmas.List.{get_or_append_left, get_or-append-add}
-use Rattle.std.proofs.lemmas.List.Sums.{sum_by-append}
-use Rattle.std.proofs.lemmas.List.Elements.{All-append, filter-append}
-use Rattle.std.proofs.lemmas.List.Sorted.{sum_by-IsPermutation, All-permutation}
-use Rattle.lc_walk.specs.Key.{Key, key_cmp, same_key}
-use Rattle.lc_walk.specs.TallyRows.{TallyRowModel, sums_of_rows, rows_with, HasSumsOf}
-use Rattle.lc_walk.specs.Sums.{plus}
+use Rattle.std.proofs.Common.{◌≡◌, ℕ, ◌+◌, ◌<◌, Bool, List, [], ◌∷◌, ◌++◌, refl, sym, ◌∙◌, ap, arith, length, subst, length-append}
+use Rattle.std.proofs.{Common.zero-add, lemmas.List.{get_or_append_left, get_or-append-add, Sums.sum_by-append}}
+use Rattle.std.proofs.lemmas.List.{Elements.{All-append, filter-append}, Sorted.{sum_by-IsPermutation, All-permutation}}
+use Rattle.std.specs.{List.{filter, sum_by, All, Sorted.IsPermutation}, declared.cmp.Ordering.TheVariants.Equal}
+use Rattle.lc_walk.specs.{Key.{Key, key_cmp, same_key}, TallyRows.{TallyRowModel, sums_of_rows, rows_with, HasSumsOf}, Sums.plus}
 use Rattle.lc_walk.specs.declared.tally.sums.Sums.{Sums}
-use Rattle.lc_walk.proofs.Filtered.{part, sum_by-filter}
-use Rattle.lc_walk.proofs.Keys.{same_to_all}
+use Rattle.lc_walk.proofs.{Filtered.{part, sum_by-filter}, Keys.same_to_all}
 
 -- sums with the same fields are the same
 pub same_sums : (a b : Sums) → a.files ≡ b.files → a.lines ≡ b.lines → a.blank ≡ b.blank → a.bytes ≡ b.bytes → a ≡ b

@@ -1,28 +1,15 @@
 -- The answers of the tree of a walk's rows are some that its tree may give.
 use Rattle.std.proofs.Common.{◌≡◌, ◌≢◌, ℕ, List, [], ◌∷◌, refl, sym, ◌∙◌, ap, subst, Some, inl, inr}
 use Rattle.std.specs.List.{AllByRecursion}
-use Rattle.lc_board.specs.ClosedBoard.{Promises}
-use Rattle.lc_board.specs.LegalHistory.{posts_under}
-use Rattle.lc_board.specs.State.{Absent, status}
-use Rattle.lc_board.proofs.PostedNumbers.{start, Known, known}
-use Rattle.lc_board.proofs.Weights.{each-map}
-use Rattle.lc_level.specs.Answers.{Answers, no_answers, Tree}
-use Rattle.lc_level.specs.Job.{JobModel}
-use Rattle.lc_level.specs.Level.{child_job}
-use Rattle.lc_level.specs.WellFormed.{IsWellFormed}
+use Rattle.lc_board.specs.{ClosedBoard.Promises, LegalHistory.posts_under, State.{Absent, status}}
+use Rattle.lc_board.proofs.{PostedNumbers.{start, Known, known}, Weights.each-map}
+use Rattle.lc_level.specs.{Answers.{Answers, no_answers, Tree}, Job.JobModel, Level.child_job, WellFormed.IsWellFormed}
 use Rattle.lc_level.specs.TreeAnswers.{MayAnswer}
 use Rattle.lc_tree.specs.Trees.{Listings, Contents}
-use Rattle.lc_walk.specs.FoundAt.{LeadsTo}
-use Rattle.lc_walk.specs.GivenAnswers.{ByAnswersLaw}
-use Rattle.lc_walk.specs.Lawful.{Asked, jobs_of}
-use Rattle.lc_walk.specs.Rows.{row_of, job_of}
-use Rattle.lc_walk.specs.TreeOfRows.{tree_from, children_by_rows, tree_of_rows}
-use Rattle.lc_walk.specs.ClosedWalks.{AreWhole}
-use Rattle.lc_walk.specs.BoardAnswers.{SomeRows}
-use Rattle.lc_walk.specs.WalkOptions.{asked_by, top_of}
-use Rattle.lc_walk.proofs.NumbersReached.{Under, under_rows, same_head, same_tail}
-use Rattle.lc_walk.proofs.Elements.{In}
-use Rattle.lc_walk.proofs.FoundByPlace.{level_by_child}
+use Rattle.lc_walk.specs.{FoundAt.LeadsTo, GivenAnswers.ByAnswersLaw, Lawful.{Asked, jobs_of}, Rows.{row_of, job_of}, TreeOfRows.tree_from}
+use Rattle.lc_walk.specs.{TreeOfRows.{children_by_rows, tree_of_rows}, ClosedWalks.AreWhole, BoardAnswers.SomeRows, WalkOptions.asked_by}
+use Rattle.lc_walk.specs.WalkOptions.{top_of}
+use Rattle.lc_walk.proofs.{NumbersReached.{Under, under_rows, same_head, same_tail}, Elements.In, FoundByPlace.level_by_child}
 use Rattle.lc_walk.proofs.WalkOfRows.{row_here, job_or, job_at, inside, posted_at, job_at_top, fits}
 
 same_some : {A : Type 0} (x y : A) → Some x ≡ Some y → x ≡ y

@@ -1,37 +1,22 @@
 -- The rule of an entry that a rule leaves out.
 use Rattle.std.proofs.Common.{◌≡◌, ℕ, Bool, true, false, cond, List, [], refl, sym, ◌∙◌, ap, subst, Option, Some, None, option_map}
-use Rattle.std.proofs.Common.{Result, Ok, Err, MatchOption, bytes_eq, codes, inl, inr}
-use Rattle.std.specs.List.{find, list_any}
-use Rattle.std.specs.Option.{option_map_or, option_or}
-use Rattle.std.proofs.lemmas.List.Sorted.{Contains-permutation, IsPermutation-sym}
+use Rattle.std.proofs.{Common.{Result, Ok, Err, MatchOption, bytes_eq, codes, inl, inr}, lemmas.List.Sorted.Contains-permutation}
+use Rattle.std.proofs.lemmas.List.Sorted.{IsPermutation-sym}
+use Rattle.std.specs.{List.{find, list_any}, Option.{option_map_or, option_or}}
 use Rattle.lc_census.specs.declared.line_count.Count.{Count}
 use Rattle.lc_glob.specs.Path.{path_in}
-use Rattle.lc_tree.specs.Kinds.{is_dir}
-use Rattle.lc_tree.specs.declared.entry.Kind.{Kind}
-use Rattle.lc_tree.specs.declared.entry.Kind.TheVariants.{File, Dir, Other}
-use Rattle.lc_tree.specs.declared.entry.OtherKind.{OtherKind}
-use Rattle.lc_tree.specs.declared.entry.OtherKind.TheVariants.{Special}
-use Rattle.lc_level.specs.declared.fault_word.FaultWord.{FaultWord}
-use Rattle.lc_level.specs.Answers.{Item, file_item, directory_item, other_item, name_of, entry_of}
-use Rattle.lc_level.specs.Job.{JobModel}
-use Rattle.lc_level.specs.Level.{Reason, named_git, by_rule, by_attribute, not_included, other_kind, Fate, counted, failed}
-use Rattle.lc_level.specs.Level.{SkippedLineModel}
-use Rattle.lc_level.specs.Level.{walked, skipped, is_met, attribute_reason, rule_reason, reason_at, reason_of, file_reason, file_fate}
-use Rattle.lc_level.specs.Level.{skipped_below, fate_of, child_job}
-use Rattle.lc_level.specs.Filters.{FiltersModel, include_rules, is_included, patterns_for}
-use Rattle.lc_rules.specs.IgnoreChains.{rules_in}
-use Rattle.lc_rules.specs.IgnoreLaws.{IsLastMatch, LastMatchLaw}
-use Rattle.lc_rules.specs.IgnoreRules.{RuleModel}
-use Rattle.lc_rules.specs.Verdicts.{last_match, rule_matches}
-use Rattle.lc_rules.specs.declared.rule_source.RuleSource.{RuleSource}
-use Rattle.lc_walk.specs.Accounts.{IsIgnoredBy, RuleLaw}
-use Rattle.lc_walk.specs.FoundAt.{LeadsTo, Gives}
-use Rattle.lc_walk.specs.Found.{Found, found_file, found_fault, found_directory, found_skipped}
-use Rattle.lc_walk.specs.RecursiveWalk.{walk_of}
-use Rattle.lc_walk.specs.FoundReports.{skipped_lines_in, skipped_lines_of}
-use Rattle.lc_walk.proofs.Elements.{In, is_in, contains, in_lists, if_cond}
-use Rattle.lc_walk.proofs.FoundByPlace.{place_by_walk}
-use Rattle.lc_walk.proofs.TakingPart.{in_filter}
+use Rattle.lc_tree.specs.{Kinds.is_dir, declared.entry.Kind.{Kind, TheVariants.{File, Dir, Other}}}
+use Rattle.lc_tree.specs.declared.entry.OtherKind.{OtherKind, TheVariants.Special}
+use Rattle.lc_level.specs.{declared.fault_word.FaultWord.FaultWord, Answers.{Item, file_item, directory_item, other_item, name_of}}
+use Rattle.lc_level.specs.{Answers.entry_of, Job.JobModel, Level.{Reason, named_git, by_rule, by_attribute, not_included, other_kind, Fate}}
+use Rattle.lc_level.specs.Level.{counted, failed, SkippedLineModel, walked, skipped, is_met, attribute_reason, rule_reason, reason_at}
+use Rattle.lc_level.specs.{Level.{reason_of, file_reason, file_fate, skipped_below, fate_of, child_job}, Filters.FiltersModel}
+use Rattle.lc_level.specs.Filters.{include_rules, is_included, patterns_for}
+use Rattle.lc_rules.specs.{IgnoreChains.rules_in, IgnoreLaws.{IsLastMatch, LastMatchLaw}, IgnoreRules.RuleModel, Verdicts.last_match}
+use Rattle.lc_rules.specs.{Verdicts.rule_matches, declared.rule_source.RuleSource.RuleSource}
+use Rattle.lc_walk.specs.{Accounts.{IsIgnoredBy, RuleLaw}, FoundAt.{LeadsTo, Gives}, Found.{Found, found_file, found_fault}}
+use Rattle.lc_walk.specs.{Found.{found_directory, found_skipped}, RecursiveWalk.walk_of, FoundReports.{skipped_lines_in, skipped_lines_of}}
+use Rattle.lc_walk.proofs.{Elements.{In, is_in, contains, in_lists, if_cond}, FoundByPlace.place_by_walk, TakingPart.in_filter}
 
 -- ---- the rule that decides
 

@@ -1,18 +1,11 @@
 -- A walk of some paths finds the same by any answers that give the same levels.
 use Rattle.std.proofs.Common.{◌≡◌, ℕ, zero, suc, List, [], ◌∷◌, ◌++◌, refl, sym, ◌∙◌, ap, subst, inl, inr}
-use Rattle.lc_level.specs.Answers.{Item, directory_item, Answers, Tree}
-use Rattle.lc_level.specs.Job.{JobModel}
-use Rattle.lc_level.specs.Level.{level}
-use Rattle.lc_level.specs.Narrowing.{part_of}
+use Rattle.lc_level.specs.{Answers.{Item, directory_item, Answers, Tree}, Job.JobModel, Level.level, Narrowing.part_of}
 use Rattle.lc_level.specs.Filters.{FiltersModel, narrowed}
 use Rattle.lc_level.proofs.AskedPaths.{all_take_part}
-use Rattle.lc_walk.specs.Found.{Found, found_of, found_at, children_of, children_at}
-use Rattle.lc_walk.specs.FoundAt.{WalksInto, LeadsTo}
-use Rattle.lc_walk.specs.PartOfWalk.{AnswerAlike, part_walk}
-use Rattle.lc_walk.specs.RecursiveWalk.{walks_below, walk_of}
-use Rattle.lc_walk.proofs.Elements.{In, is_in, contains}
-use Rattle.lc_walk.proofs.FoundByPlace.{child_by_level}
-use Rattle.lc_walk.proofs.TakingPart.{in_filter}
+use Rattle.lc_walk.specs.{Found.{Found, found_of, found_at, children_of, children_at}, FoundAt.{WalksInto, LeadsTo}, PartOfWalk.AnswerAlike}
+use Rattle.lc_walk.specs.{PartOfWalk.part_walk, RecursiveWalk.{walks_below, walk_of}}
+use Rattle.lc_walk.proofs.{Elements.{In, is_in, contains}, FoundByPlace.child_by_level, TakingPart.in_filter}
 
 module _ (s : FiltersModel) (only : List (List ℕ)) where
   abbrev part : FiltersModel

@@ -1,8 +1,7 @@
 -- The items of a directory that take part in a walk.
 use Rattle.std.proofs.Common.{◌≡◌, ℕ, Bool, true, false, cond, List, [], ◌∷◌, refl, sym, ◌∙◌, ap, subst, bytes_eq, inl, inr}
 use Rattle.std.specs.List.{filter, AllByRecursion}
-use Rattle.lc_level.specs.Answers.{Item, name_of}
-use Rattle.lc_level.specs.Narrowing.{part_of}
+use Rattle.lc_level.specs.{Answers.{Item, name_of}, Narrowing.part_of}
 use Rattle.lc_level.proofs.WellFormed.{Spread}
 use Rattle.lc_walk.proofs.Elements.{In}
 

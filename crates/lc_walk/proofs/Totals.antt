@@ -1,16 +1,10 @@
 -- Rows that have the same sums for each key have the same totals.
 use Rattle.std.proofs.Common.{◌≡◌, ℕ, ◌+◌, Bool, true, false, cond, List, [], ◌∷◌, ◌++◌, refl, sym, ◌∙◌, ap, arith}
-use Rattle.std.specs.List.{filter, sum_by}
-use Rattle.std.specs.Ordering.{is_eq}
-use Rattle.std.specs.declared.cmp.Ordering.{Ordering}
-use Rattle.std.specs.declared.cmp.Ordering.TheVariants.{Less, Equal, Greater}
 use Rattle.std.proofs.lemmas.List.Sums.{sum_by-cons}
-use Rattle.lc_walk.proofs.Filtered.{part, sum_by-filter}
-use Rattle.lc_walk.proofs.Keys.{key_cmp_total, same_to_all, equal_if}
-use Rattle.lc_walk.proofs.RowSums.{same_sums, sums_of_both, sums_of_one}
-use Rattle.lc_walk.specs.Key.{Key, key_cmp, same_key}
-use Rattle.lc_walk.specs.Sums.{plus}
-use Rattle.lc_walk.specs.TallyRows.{TallyRowModel, sums_of_rows, rows_with, Gains, row_with}
+use Rattle.std.specs.{List.{filter, sum_by}, Ordering.is_eq, declared.cmp.Ordering.{Ordering, TheVariants.{Less, Equal, Greater}}}
+use Rattle.lc_walk.proofs.{Filtered.{part, sum_by-filter}, Keys.{key_cmp_total, same_to_all, equal_if}, RowSums.{same_sums, sums_of_both}}
+use Rattle.lc_walk.proofs.RowSums.{sums_of_one}
+use Rattle.lc_walk.specs.{Key.{Key, key_cmp, same_key}, Sums.plus, TallyRows.{TallyRowModel, sums_of_rows, rows_with, Gains, row_with}}
 use Rattle.lc_walk.specs.declared.tally.sums.Sums.{Sums}
 
 -- a key is the same as itself

@@ -1,37 +1,21 @@
 -- The laws of the walk.
 use Rattle.std.proofs.Common.{◌≡◌, ◌≢◌, ℕ, zero, suc, ◌<◌, ◌≤◌, Bool, List, [], ◌∷◌, ◌++◌, length, slice_get, refl, sym, ◌∙◌, ap, arith}
-use Rattle.std.proofs.Common.{subst, Option, Some, None, ◌⊎◌, inl, inr, IsPermutation, append-nil}
+use Rattle.std.proofs.{Common.{subst, Option, Some, None, ◌⊎◌, inl, inr, IsPermutation, append-nil}, lemmas.Bool.cases_lt}
 use Rattle.std.specs.List.{flat_map, AllByRecursion}
-use Rattle.std.proofs.lemmas.Bool.{cases_lt}
-use Rattle.lc_board.specs.State.{Absent, status}
-use Rattle.lc_board.specs.LegalHistory.{posts_under}
-use Rattle.lc_board.specs.Part.{part}
-use Rattle.lc_board.specs.RowsInPlace.{job_posted}
-use Rattle.lc_board.specs.Laws.{SaysSame}
-use Rattle.lc_board.specs.declared.event.Event.{Event}
-use Rattle.lc_board.specs.declared.answers.Ended.{Ended}
-use Rattle.lc_board.specs.declared.answers.Ended.TheVariants as ended
-use Rattle.lc_board.proofs.PartsOfWhole.{part_says_whole}
-use Rattle.lc_tree.specs.Paths.{names_of_path}
-use Rattle.lc_level.specs.Answers.{Answers, no_answers, Tree}
-use Rattle.lc_level.specs.Job.{JobModel}
-use Rattle.lc_level.specs.Level.{level, walked_in}
-use Rattle.lc_walk.specs.Found.{Found, found_of, found_at, children_of, children_at}
-use Rattle.lc_walk.specs.RecursiveWalk.{walk_of}
-use Rattle.lc_walk.specs.RowViews.{ChildModel}
-use Rattle.lc_walk.specs.Rows.{row_of, job_of, children_in, IsWhole}
-use Rattle.lc_walk.specs.Lawful.{Asked, Says, named, jobs_of}
-use Rattle.lc_walk.specs.TreeOfRows.{child_number, tree_from, children_at_row, children_by_rows, tree_of_rows, numbers_below}
-use Rattle.lc_walk.specs.ClosedWalks.{Walked, AreWhole, row_found, rows_found}
-use Rattle.lc_walk.specs.Laws.{CoreLaw, NumbersLaw, OneAnswerLaw, PartLaw, walk_numbers}
-use Rattle.lc_walk.specs.declared.row.Row.{Row}
-use Rattle.lc_walk.specs.declared.row.Row.TheVariants.{Listed, Faulted, Broken}
-use Rattle.lc_board.proofs.Weights.{each-map, each-append, flat_map-on, times, permuted, permuted_lists}
+use Rattle.lc_board.specs.{State.{Absent, status}, LegalHistory.posts_under, Part.part, RowsInPlace.job_posted, Laws.SaysSame}
+use Rattle.lc_board.specs.declared.{event.Event.Event, answers.Ended.Ended}
+use Rattle.lc_board.proofs.{PartsOfWhole.part_says_whole, Weights.{each-map, each-append, flat_map-on, times, permuted, permuted_lists}}
 use Rattle.lc_board.proofs.PostedNumbers.{start, top_posted, Known, known}
-use Rattle.lc_walk.proofs.Reach.{reach, reach_times}
-use Rattle.lc_walk.proofs.Levels.{apart_level, good_level, IsChild}
-use Rattle.lc_walk.proofs.Places.{names_of_path-path_in}
+use Rattle.lc_tree.specs.Paths.{names_of_path}
+use Rattle.lc_level.specs.{Answers.{Answers, no_answers, Tree}, Job.JobModel, Level.{level, walked_in}}
+use Rattle.lc_walk.specs.{Found.{Found, found_of, found_at, children_of, children_at}, RecursiveWalk.walk_of, RowViews.ChildModel}
+use Rattle.lc_walk.specs.{Rows.{row_of, job_of, children_in, IsWhole}, Lawful.{Asked, Says, named, jobs_of}, TreeOfRows.child_number}
+use Rattle.lc_walk.specs.{TreeOfRows.{tree_from, children_at_row, children_by_rows, tree_of_rows, numbers_below}, ClosedWalks.Walked}
+use Rattle.lc_walk.specs.{ClosedWalks.{AreWhole, row_found, rows_found}, Laws.{CoreLaw, NumbersLaw, OneAnswerLaw, PartLaw, walk_numbers}}
+use Rattle.lc_walk.specs.declared.row.Row.{Row, TheVariants.{Listed, Faulted, Broken}}
+use Rattle.lc_walk.proofs.{Reach.{reach, reach_times}, Levels.{apart_level, good_level, IsChild}, Places.names_of_path-path_in}
 use Rattle.lc_walk.proofs.NumbersReached.{Grows, walk_is, Finds, finds, under_rows, PlacedUnder, under_places, same_head, same_tail}
+use Rattle.lc_board.specs.declared.answers.Ended.TheVariants as ended
 
 same_some : {A : Type 0} (x y : A) → Some x ≡ Some y → x ≡ y
 same_some x y e = cc

@@ -1,10 +1,9 @@
 -- Recursive walks by parts of what each directory gives.
 use Rattle.std.proofs.Common.{◌≡◌, ℕ, zero, suc, ◌≤◌, List, [], ◌∷◌, ◌++◌, map, length, refl, sym, ◌∙◌, ap, subst, arith, append_assoc}
-use Rattle.std.proofs.Common.{IsPermutation, length-append}
-use Rattle.std.specs.List.{AllByRecursion}
-use Rattle.std.proofs.lemmas.List.{map-append}
+use Rattle.std.proofs.{Common.{IsPermutation, length-append}, lemmas.List.map-append}
 use Rattle.std.proofs.lemmas.List.Sorted.{IsPermutation-refl, IsPermutation-trans, IsPermutation-append, IsPermutation-append_comm}
 use Rattle.std.proofs.lemmas.List.Sorted.{IsPermutation-append_left, IsPermutation-append_right}
+use Rattle.std.specs.List.{AllByRecursion}
 use Rattle.lc_board.proofs.Weights.{each-append}
 use Rattle.lc_walk.specs.RecursiveWalk.{walks_below, walk_by}
 

@@ -1,30 +1,19 @@
 -- What a worker has done goes on with each call.
 use Rattle.std.proofs.Common.{◌≡◌, ◌≢◌, ◌⊎◌, inl, inr, ℕ, Bool, List, [], ◌∷◌, ◌++◌, refl, sym, ◌∙◌, ap, subst, Option, Some, None}
 use Rattle.std.proofs.Common.{Result, Ok, Err, true, append_assoc}
-use Rattle.std.specs.List.{AllByRecursion}
-use Rattle.std.specs.Result.{is_err}
-use Rattle.std.specs.declared.alloc.AllocError.{AllocError}
-use Rattle.lc_board.specs.Holding.{job_held, posts_held}
-use Rattle.lc_board.specs.Pass.{Pass, held_number, after_claim, after_give, after_fault}
-use Rattle.lc_board.specs.declared.event.Event.{Event}
-use Rattle.lc_board.specs.declared.event.Event.TheVariants.{Post, Claim, Return, Fault, Over}
+use Rattle.std.specs.{List.AllByRecursion, Result.is_err, declared.alloc.AllocError.AllocError}
+use Rattle.lc_board.specs.{Holding.{job_held, posts_held}, Pass.{Pass, held_number, after_claim, after_give, after_fault}}
+use Rattle.lc_board.specs.declared.event.Event.{Event, TheVariants.{Post, Claim, Return, Fault, Over}}
 use Rattle.lc_board.specs.declared.answers.Claim.{Claim as ClaimAnswer}
+use Rattle.lc_level.specs.{Answers.Answers, Job.JobModel}
+use Rattle.lc_walk.specs.{Lawful.Asked, Posting.{IsPost, HasPosted}, Serving.{BreaksOff, WorksOn, Serves}, Tally.{TallyModel, CountedFile}}
+use Rattle.lc_walk.specs.{Tally.StandsFor, WorkerResults.{IsLawfulEnd, AreLawful, AreLawfulSince, HasWorked, TalliesFor, RanOutOfMemory}}
+use Rattle.lc_walk.specs.{WorkerResults.{files_given, returned_files}, Assembled.IsBrokenBy}
+use Rattle.lc_walk.specs.declared.broken_cause.BrokenCause.{BrokenCause, TheVariants.{Memory, TooManyDirs, TooDeep}}
+use Rattle.lc_walk.specs.declared.row.Row.{Row, TheVariants.Broken}
+use Rattle.lc_walk.proofs.RefusedPosts.{fuller_since}
 use Rattle.lc_board.specs.declared.answers.Claim.TheVariants as answer
 use Rattle.lc_board.specs.declared.answers.Ended.TheVariants as ended
-use Rattle.lc_level.specs.Answers.{Answers}
-use Rattle.lc_level.specs.Job.{JobModel}
-use Rattle.lc_walk.specs.Lawful.{Asked}
-use Rattle.lc_walk.specs.Posting.{IsPost, HasPosted}
-use Rattle.lc_walk.specs.Serving.{BreaksOff, WorksOn, Serves}
-use Rattle.lc_walk.specs.Tally.{TallyModel, CountedFile, StandsFor}
-use Rattle.lc_walk.specs.WorkerResults.{IsLawfulEnd, AreLawful, AreLawfulSince, HasWorked, TalliesFor, RanOutOfMemory, files_given}
-use Rattle.lc_walk.specs.WorkerResults.{returned_files}
-use Rattle.lc_walk.specs.Assembled.{IsBrokenBy}
-use Rattle.lc_walk.proofs.RefusedPosts.{fuller_since}
-use Rattle.lc_walk.specs.declared.broken_cause.BrokenCause.{BrokenCause}
-use Rattle.lc_walk.specs.declared.broken_cause.BrokenCause.TheVariants.{Memory, TooManyDirs, TooDeep}
-use Rattle.lc_walk.specs.declared.row.Row.{Row}
-use Rattle.lc_walk.specs.declared.row.Row.TheVariants.{Broken}
 
 abbrev Events : Type 0
 Events = List (Event JobModel Row)

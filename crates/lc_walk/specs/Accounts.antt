@@ -1,28 +1,13 @@
 -- What becomes of the entries of all listed directories, as the report of a walk shows it.
-use Rattle.std.specs.Prelude.{◌≡◌, ◌≢◌, ℕ, ◌+◌, true, false, List, ◌++◌, length, map, Ok}
-use Rattle.std.specs.List.{Contains, AllByRecursion}
+use Rattle.std.specs.{Prelude.{◌≡◌, ◌≢◌, ℕ, ◌+◌, true, false, List, ◌++◌, length, map, Ok}, List.{Contains, AllByRecursion}}
 use Rattle.std.specs.List.Sorted.{IsPermutation}
 use Rattle.lc_glob.specs.Path.{path_in}
-use Rattle.lc_level.specs.Answers.{Item, entry_of, name_of, Tree}
-use Rattle.lc_level.specs.FaultLines.{FaultLineModel}
-use Rattle.lc_level.specs.Job.{JobModel}
-use Rattle.lc_level.specs.Level.{SkippedLineModel, by_rule}
-use Rattle.lc_level.specs.Filters.{FiltersModel}
-use Rattle.lc_rules.specs.IgnoreChains.{rules_in}
-use Rattle.lc_rules.specs.IgnoreLaws.{IsLastMatch}
-use Rattle.lc_rules.specs.IgnoreRules.{RuleModel}
-use Rattle.lc_rules.specs.declared.rule_source.RuleSource.{RuleSource}
-use Rattle.lc_tree.specs.Kinds.{is_dir}
-use Rattle.lc_tree.specs.Trees.{Listings, Contents}
-use Rattle.lc_level.specs.declared.fault_word.FaultWord.TheVariants.{Absent}
-use Rattle.lc_walk.specs.FoundAt.{IsListed, LeadsTo}
-use Rattle.lc_walk.specs.RecursiveWalk.{walk_of}
-use Rattle.lc_walk.specs.WalkOptions.{asked_by}
-use Rattle.lc_walk.specs.FoundReports.{IsReportOf}
-use Rattle.lc_walk.specs.Walks.{Walks}
-use Rattle.lc_walk.specs.declared.options.ReportLists.{ReportLists}
-use Rattle.lc_walk.specs.declared.options.Options.{Options}
-use Rattle.lc_walk.specs.declared.report.Report.{Report}
+use Rattle.lc_level.specs.{Answers.{Item, entry_of, name_of, Tree}, FaultLines.FaultLineModel, Job.JobModel, Level.SkippedLineModel}
+use Rattle.lc_level.specs.{Level.by_rule, Filters.FiltersModel, declared.fault_word.FaultWord.TheVariants.Absent}
+use Rattle.lc_rules.specs.{IgnoreChains.rules_in, IgnoreLaws.IsLastMatch, IgnoreRules.RuleModel, declared.rule_source.RuleSource.RuleSource}
+use Rattle.lc_tree.specs.{Kinds.is_dir, Trees.{Listings, Contents}}
+use Rattle.lc_walk.specs.{FoundAt.{IsListed, LeadsTo}, RecursiveWalk.walk_of, WalkOptions.asked_by, FoundReports.IsReportOf, Walks.Walks}
+use Rattle.lc_walk.specs.declared.{options.{ReportLists.ReportLists, Options.Options}, report.Report.Report}
 
 -- the line of the error of a requested path that is absent
 abbrev pub absent_line : List ℕ → FaultLineModel

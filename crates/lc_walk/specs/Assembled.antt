@@ -1,24 +1,15 @@
 -- What report is made from the rows of a closed board.
 use Rattle.std.specs.Prelude.{◌≡◌, ℕ, zero, suc, ◌<◌, List, [], ◌∷◌, length, map, flat_map, sum_by, slice_get, Some, Result, Ok, Err}
 use Rattle.lc_board.specs.declared.answers.Ended.{Ended}
-use Rattle.lc_walk.specs.Tally.{TallyModel}
-use Rattle.lc_level.specs.FaultLines.{FaultLineModel, fault_below}
-use Rattle.lc_walk.specs.Report.{IsReport}
-use Rattle.lc_walk.specs.declared.options.ReportLists.{ReportLists}
-use Rattle.lc_walk.specs.declared.report.Report.{Report}
-use Rattle.lc_walk.specs.declared.report.findings.Findings.{Findings}
+use Rattle.lc_walk.specs.{Tally.TallyModel, Report.IsReport, declared.options.ReportLists.ReportLists}
+use Rattle.lc_walk.specs.declared.report.{Report.Report, findings.Findings.Findings}
+use Rattle.lc_walk.specs.declared.broken_cause.BrokenCause.{BrokenCause, TheVariants.{Memory, TooManyDirs, TooDeep}}
+use Rattle.lc_walk.specs.declared.{row.Row.{Row, TheVariants.{Listed, Faulted, Broken}}, walk_fault.WalkFault.WalkFault}
+use Rattle.lc_walk.specs.{RowViews.ChildModel, Rows.{row_of, job_of, children_in}, ClosedWalks.AreWhole}
+use Rattle.lc_level.specs.{FaultLines.{FaultLineModel, fault_below}, SitePaths.site_path, Level.{skipped_below, file_below}}
+use Rattle.lc_level.specs.Level.{SkippedLineModel, FileLineModel}
 use Rattle.lc_glob.specs.Path.{path_in}
-use Rattle.lc_walk.specs.RowViews.{ChildModel}
-use Rattle.lc_walk.specs.Rows.{row_of, job_of, children_in}
-use Rattle.lc_level.specs.SitePaths.{site_path}
-use Rattle.lc_walk.specs.ClosedWalks.{AreWhole}
-use Rattle.lc_walk.specs.declared.broken_cause.BrokenCause.{BrokenCause}
-use Rattle.lc_walk.specs.declared.broken_cause.BrokenCause.TheVariants.{Memory, TooManyDirs, TooDeep}
-use Rattle.lc_walk.specs.declared.row.Row.{Row}
-use Rattle.lc_walk.specs.declared.row.Row.TheVariants.{Listed, Faulted, Broken}
-use Rattle.lc_walk.specs.declared.walk_fault.WalkFault.{WalkFault}
 use Rattle.lc_walk.specs.declared.walk_fault.WalkFault.TheVariants as fault
-use Rattle.lc_level.specs.Level.{skipped_below, file_below, SkippedLineModel, FileLineModel}
 
 -- ---- what the rows themselves say
 

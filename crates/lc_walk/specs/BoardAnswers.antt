@@ -1,29 +1,12 @@
 -- What each result of a walk over any shared board means.
 use Rattle.std.specs.Prelude.{◌≡◌, ℕ, ◌<◌, ◌≤◌, ◌++◌, Bool, true, false, List, length, slice_get, Some, Result, Ok, Err}
-use Rattle.lc_board.specs.ClosedBoard.{Promises}
-use Rattle.lc_board.specs.LegalHistory.{posts_under}
-use Rattle.lc_board.specs.declared.event.Event.{Event}
-use Rattle.lc_board.specs.declared.answers.Ended.{Ended}
-use Rattle.lc_walk.specs.ReportLines.{file_paths, fault_paths, skipped_paths}
-use Rattle.lc_tree.specs.ByteOrder.{AreApart, AreInOrder}
-use Rattle.lc_walk.specs.declared.report.Report.{Report}
-use Rattle.lc_tree.specs.Paths.{names_of_path}
-use Rattle.lc_level.specs.Answers.{Answers, Tree}
-use Rattle.lc_level.specs.Job.{JobModel}
-use Rattle.lc_level.specs.Level.{level}
-use Rattle.lc_level.specs.Filters.{FiltersModel}
-use Rattle.lc_walk.specs.Found.{children_at}
-use Rattle.lc_walk.specs.FoundAt.{LeadsTo}
-use Rattle.lc_walk.specs.RecursiveWalk.{walk_of}
-use Rattle.lc_level.specs.Deep.{has_too_deep}
-use Rattle.lc_walk.specs.Rows.{row_of, job_of}
-use Rattle.lc_walk.specs.Lawful.{Asked}
-use Rattle.lc_walk.specs.TreeOfRows.{tree_of_rows}
-use Rattle.lc_walk.specs.ClosedWalks.{Walked, AreWhole}
-use Rattle.lc_walk.specs.FoundReports.{IsReportOf}
-use Rattle.lc_walk.specs.declared.row.Row.{Row}
-use Rattle.lc_walk.specs.declared.walk_fault.WalkFault.{WalkFault}
-use Rattle.lc_walk.specs.declared.walk_fault.WalkFault.TheVariants.{Memory, TooManyDirs, TooDeep, Torn, Mismatch}
+use Rattle.lc_board.specs.{ClosedBoard.Promises, LegalHistory.posts_under, declared.{event.Event.Event, answers.Ended.Ended}}
+use Rattle.lc_walk.specs.{ReportLines.{file_paths, fault_paths, skipped_paths}, declared.{report.Report.Report, row.Row.Row}}
+use Rattle.lc_walk.specs.declared.walk_fault.WalkFault.{WalkFault, TheVariants.{Memory, TooManyDirs, TooDeep, Torn, Mismatch}}
+use Rattle.lc_walk.specs.{Found.children_at, FoundAt.LeadsTo, RecursiveWalk.walk_of, Rows.{row_of, job_of}, Lawful.Asked}
+use Rattle.lc_walk.specs.{TreeOfRows.tree_of_rows, ClosedWalks.{Walked, AreWhole}, FoundReports.IsReportOf}
+use Rattle.lc_tree.specs.{ByteOrder.{AreApart, AreInOrder}, Paths.names_of_path}
+use Rattle.lc_level.specs.{Answers.{Answers, Tree}, Job.JobModel, Level.level, Filters.FiltersModel, Deep.has_too_deep}
 
 -- for each directory of `t` that a walk reaches, all answers that the tree may give there contribute what `t` contributes. Nothing is
 -- required below a directory that is skipped or can't be listed

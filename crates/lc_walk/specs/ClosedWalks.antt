@@ -1,16 +1,9 @@
 -- A walk whose board is closed.
 use Rattle.std.specs.Prelude.{◌≡◌, ℕ, ◌≤◌, Bool, List, [], length, slice_get, Option, Some, None, flat_map}
-use Rattle.lc_board.specs.LegalHistory.{IsLegal, IsOver}
-use Rattle.lc_board.specs.Numbers.{HasNumbers}
-use Rattle.lc_board.specs.RowsInPlace.{InPlace}
-use Rattle.lc_board.specs.declared.event.Event.{Event}
+use Rattle.lc_board.specs.{LegalHistory.{IsLegal, IsOver}, Numbers.HasNumbers, RowsInPlace.InPlace, declared.event.Event.Event}
 use Rattle.lc_board.specs.declared.answers.Ended.{Ended}
-use Rattle.lc_level.specs.Answers.{Answers}
-use Rattle.lc_level.specs.Job.{JobModel}
-use Rattle.lc_walk.specs.Found.{Found, found_at}
-use Rattle.lc_walk.specs.Rows.{row_of, job_of, IsWhole}
-use Rattle.lc_walk.specs.Lawful.{Asked, IsLawful}
-use Rattle.lc_walk.specs.TreeOfRows.{numbers_below}
+use Rattle.lc_level.specs.{Answers.Answers, Job.JobModel}
+use Rattle.lc_walk.specs.{Found.{Found, found_at}, Rows.{row_of, job_of, IsWhole}, Lawful.{Asked, IsLawful}, TreeOfRows.numbers_below}
 use Rattle.lc_walk.specs.declared.row.Row.{Row}
 
 -- the history is legal and over, and each number has its row, which is lawful with the number's answers

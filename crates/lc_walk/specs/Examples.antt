@@ -1,14 +1,10 @@
 -- The definitions of what a directory contributes, computed for a small directory.
 use Rattle.std.specs.Prelude.{◌≡◌, [], ◌∷◌, Ok, None, map, codes}
-use Rattle.lc_census.specs.declared.line_count.Count.{Count}
-use Rattle.lc_census.specs.declared.line_count.Eol.TheVariants.{Lf}
-use Rattle.lc_level.specs.Answers.{file_item, directory_item, other_item, Answers}
+use Rattle.lc_census.specs.declared.line_count.{Count.Count, Eol.TheVariants.Lf}
+use Rattle.lc_level.specs.{Answers.{file_item, directory_item, other_item, Answers}, Job.JobModel, Filters.no_filters}
 use Rattle.lc_rules.specs.IgnoreChains.{no_ignore_files}
 use Rattle.lc_tree.specs.declared.entry.OtherKind.TheVariants.{Special}
-use Rattle.lc_walk.specs.Found.{children_at}
-use Rattle.lc_level.specs.Job.{JobModel}
-use Rattle.lc_level.specs.Filters.{no_filters}
-use Rattle.lc_walk.specs.Lawful.{files_at}
+use Rattle.lc_walk.specs.{Found.children_at, Lawful.files_at}
 
 -- the census of a file with one empty line
 abbrev pub one_line : Count

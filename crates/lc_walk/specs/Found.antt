@@ -1,15 +1,9 @@
 -- What a walk finds.
-use Rattle.std.specs.Prelude.{ℕ, List, [], ◌∷◌, ◌++◌, length, map}
-use Rattle.std.specs.List.{flat_map}
-use Rattle.lc_level.specs.declared.fault_word.FaultWord.{FaultWord}
-use Rattle.lc_level.specs.declared.fault_word.FaultWord.TheVariants.{Absent}
+use Rattle.std.specs.{Prelude.{ℕ, List, [], ◌∷◌, ◌++◌, length, map}, List.flat_map}
+use Rattle.lc_level.specs.{declared.fault_word.FaultWord.{FaultWord, TheVariants.Absent}, Answers.Answers, Job.JobModel}
+use Rattle.lc_level.specs.Level.{FileLineModel, SkippedLineModel, Fate, counted, failed, walked, skipped, Level, faulted_level}
+use Rattle.lc_level.specs.{Level.{listed_level, level, walked_in}, Filters.FiltersModel}
 use Rattle.lc_glob.specs.Path.{path_in}
-use Rattle.lc_level.specs.Answers.{Answers}
-use Rattle.lc_level.specs.Job.{JobModel}
-use Rattle.lc_level.specs.Level.{FileLineModel, SkippedLineModel, Fate, counted, failed, walked, skipped, Level}
-use Rattle.lc_level.specs.Level.{faulted_level, listed_level}
-use Rattle.lc_level.specs.Level.{level, walked_in}
-use Rattle.lc_level.specs.Filters.{FiltersModel}
 
 -- a counted file of the directory at a path; an error at a path; a listed directory at a path, with the number of its selected entries; a
 -- skipped entry of the directory at a path

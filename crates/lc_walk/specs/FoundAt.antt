@@ -1,16 +1,11 @@
 -- What a walk finds, stated without the walk: gitignore(5), PATTERN FORMAT, on files below a directory that is ignored.
-use Rattle.std.specs.Prelude.{◌≡◌, ◌⊎◌, ℕ, ◌<◌, true, List, [], ◌∷◌, length, Ok}
-use Rattle.std.specs.List.{Contains}
+use Rattle.std.specs.{Prelude.{◌≡◌, ◌⊎◌, ℕ, ◌<◌, true, List, [], ◌∷◌, length, Ok}, List.Contains}
 use Rattle.lc_glob.specs.Path.{path_in}
-use Rattle.lc_level.specs.Answers.{Item, directory_item, name_of, Answers, Tree}
-use Rattle.lc_level.specs.Job.{JobModel}
-use Rattle.lc_level.specs.Level.{Fate, counted, failed, skipped, faulted_level, level, fate_of, is_taken, child_job}
-use Rattle.lc_level.specs.Narrowing.{part_of, absent_from}
-use Rattle.lc_level.specs.RuleFiles.{RuleBytes, rule_bytes, extended}
-use Rattle.lc_level.specs.Filters.{FiltersModel}
+use Rattle.lc_level.specs.{Answers.{Item, directory_item, name_of, Answers, Tree}, Job.JobModel, Level.{Fate, counted, failed, skipped}}
+use Rattle.lc_level.specs.{Level.{faulted_level, level, fate_of, is_taken, child_job}, Narrowing.{part_of, absent_from}}
+use Rattle.lc_level.specs.{RuleFiles.{RuleBytes, rule_bytes, extended}, Filters.FiltersModel}
 use Rattle.lc_level.specs.declared.fault_word.FaultWord.TheVariants.{Absent}
-use Rattle.lc_walk.specs.Found.{Found, found_file, found_fault, found_directory, found_skipped}
-use Rattle.lc_walk.specs.RecursiveWalk.{walk_of}
+use Rattle.lc_walk.specs.{Found.{Found, found_file, found_fault, found_directory, found_skipped}, RecursiveWalk.walk_of}
 
 -- the directory of a job is listed, and its rule files are read, without an error. `items` is the listing, and `inside` is the job with
 -- these rule files

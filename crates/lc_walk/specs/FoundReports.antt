@@ -1,14 +1,10 @@
 -- The report of what a walk found.
-use Rattle.std.specs.Prelude.{◌≡◌, ℕ, if◌then◌else◌, List, [], ◌∷◌, length, flat_map, sum_by}
-use Rattle.std.specs.List.Sorted.{IsPermutation, IsSortedByKey}
-use Rattle.lc_walk.specs.Extension.{extension_of}
-use Rattle.lc_walk.specs.Tally.{CountedFile, counted, sums_of_files, IsTally}
-use Rattle.lc_level.specs.FaultLines.{FaultLineModel}
+use Rattle.std.specs.{Prelude.{◌≡◌, ℕ, if◌then◌else◌, List, [], ◌∷◌, length, flat_map, sum_by}, List.Sorted.{IsPermutation, IsSortedByKey}}
+use Rattle.lc_walk.specs.{Extension.extension_of, Tally.{CountedFile, counted, sums_of_files, IsTally}}
+use Rattle.lc_walk.specs.{declared.{options.ReportLists.ReportLists, report.Report.Report}, Found.{Found, found_file, found_fault}}
+use Rattle.lc_walk.specs.Found.{found_directory, found_skipped}
+use Rattle.lc_level.specs.{FaultLines.FaultLineModel, Level.{FileLineModel, SkippedLineModel, file_below, skipped_below}}
 use Rattle.lc_tree.specs.ByteOrder.{bytes_cmp}
-use Rattle.lc_walk.specs.declared.options.ReportLists.{ReportLists}
-use Rattle.lc_walk.specs.declared.report.Report.{Report}
-use Rattle.lc_level.specs.Level.{FileLineModel, SkippedLineModel, file_below, skipped_below}
-use Rattle.lc_walk.specs.Found.{Found, found_file, found_fault, found_directory, found_skipped}
 
 -- what the tally needs of a counted file
 abbrev pub tallied : FileLineModel → CountedFile

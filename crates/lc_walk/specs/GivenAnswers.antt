@@ -1,18 +1,9 @@
 -- A walk by answers that its tree may give: one state of the directories, as far as the walk read them.
 use Rattle.std.specs.Prelude.{ℕ, ◌≤◌, List, Ok}
-use Rattle.lc_level.specs.Answers.{Tree}
-use Rattle.lc_level.specs.Job.{JobModel}
-use Rattle.lc_level.specs.Filters.{FiltersModel}
-use Rattle.lc_level.specs.TreeAnswers.{MayAnswer}
-use Rattle.lc_level.specs.WellFormed.{IsWellFormed}
+use Rattle.lc_level.specs.{Answers.Tree, Job.JobModel, Filters.FiltersModel, TreeAnswers.MayAnswer, WellFormed.IsWellFormed}
 use Rattle.lc_tree.specs.Trees.{Listings, Contents}
-use Rattle.lc_walk.specs.FoundAt.{LeadsTo}
-use Rattle.lc_walk.specs.RecursiveWalk.{walk_of}
-use Rattle.lc_walk.specs.WalkOptions.{asked_by, top_of}
-use Rattle.lc_walk.specs.FoundReports.{IsReportOf}
-use Rattle.lc_walk.specs.Walks.{Walks}
-use Rattle.lc_walk.specs.declared.options.Options.{Options}
-use Rattle.lc_walk.specs.declared.report.Report.{Report}
+use Rattle.lc_walk.specs.{FoundAt.LeadsTo, RecursiveWalk.walk_of, WalkOptions.{asked_by, top_of}, FoundReports.IsReportOf, Walks.Walks}
+use Rattle.lc_walk.specs.declared.{options.Options.Options, report.Report.Report}
 
 -- each directory that the walk reaches has a well-formed listing
 abbrev pub HasListings : FiltersModel → JobModel → Tree → Type 0

@@ -1,14 +1,9 @@
 -- What a walk with `include` patterns finds, compared with the walk without these patterns.
-use Rattle.std.specs.Prelude.{◌≡◌, ℕ, Bool, List, [], ◌∷◌, filter, Option, None, option_map}
-use Rattle.std.specs.List.{flat_map}
+use Rattle.std.specs.{Prelude.{◌≡◌, ℕ, Bool, List, [], ◌∷◌, filter, Option, None, option_map}, List.flat_map}
 use Rattle.lc_glob.specs.Path.{path_in}
-use Rattle.lc_level.specs.Answers.{Tree}
-use Rattle.lc_level.specs.Job.{JobModel}
-use Rattle.lc_level.specs.Level.{FileLineModel}
-use Rattle.lc_level.specs.Filters.{FiltersModel, including, is_included, patterns_for}
+use Rattle.lc_level.specs.{Answers.Tree, Job.JobModel, Level.FileLineModel, Filters.{FiltersModel, including, is_included, patterns_for}}
 use Rattle.lc_rules.specs.IgnoreRules.{RuleModel, rules_of}
-use Rattle.lc_walk.specs.Found.{Found, found_file, found_fault, found_directory, found_skipped}
-use Rattle.lc_walk.specs.RecursiveWalk.{walk_of}
+use Rattle.lc_walk.specs.{Found.{Found, found_file, found_fault, found_directory, found_skipped}, RecursiveWalk.walk_of}
 use Rattle.lc_walk.specs.FoundReports.{directories_of}
 
 -- the counted files, each with its directory

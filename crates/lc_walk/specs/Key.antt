@@ -1,13 +1,8 @@
 -- Keys of the tally, and their order.
-use Rattle.std.specs.Prelude.{ℕ, List, Option, Bool}
-use Rattle.std.specs.declared.cmp.Ordering.{Ordering}
-use Rattle.std.specs.Ordering.{nat_cmp, on, then_cmp, eq_by_cmp}
-use Rattle.std.specs.Option.{option_cmp}
-use Rattle.std.specs.Cmp.Lexicographic.{slice_cmp}
-use Rattle.lc_census.specs.declared.line_count.Eol.{Eol}
-use Rattle.lc_census.specs.declared.line_count.Eol.TheVariants.{NoEnd, Lf, CrLf, Cr, Mixed, Nul}
-use Rattle.lc_rules.specs.declared.states.TextState.{TextState}
-use Rattle.lc_rules.specs.declared.states.TextState.TheVariants.{Set, Unset, Auto, Other, Unspecified}
+use Rattle.std.specs.{Prelude.{ℕ, List, Option, Bool}, declared.cmp.Ordering.Ordering, Ordering.{nat_cmp, on, then_cmp, eq_by_cmp}}
+use Rattle.std.specs.{Option.option_cmp, Cmp.Lexicographic.slice_cmp}
+use Rattle.lc_census.specs.declared.line_count.Eol.{Eol, TheVariants.{NoEnd, Lf, CrLf, Cr, Mixed, Nul}}
+use Rattle.lc_rules.specs.declared.states.TextState.{TextState, TheVariants.{Set, Unset, Auto, Other, Unspecified}}
 
 -- what the files of one row of a tally have in common
 pub record Key : Type 0 where

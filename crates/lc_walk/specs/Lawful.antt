@@ -1,28 +1,14 @@
 -- When a row is true of its directory.
 use Rattle.std.specs.Prelude.{◌≡◌, ℕ, ◌<◌, Bool, true, false, if◌then◌else◌, List, [], ◌∷◌, ◌++◌, length, map, take, Some}
-use Rattle.lc_board.specs.LegalHistory.{posts_under}
-use Rattle.lc_board.specs.RowsInPlace.{job_got}
-use Rattle.lc_board.specs.declared.event.Event.{Event}
-use Rattle.lc_board.specs.declared.answers.Ended.{Ended}
-use Rattle.lc_board.specs.declared.answers.Ended.TheVariants as ended
-use Rattle.lc_level.specs.Answers.{Answers}
-use Rattle.lc_level.specs.WellFormed.{IsWellFormed}
-use Rattle.lc_level.specs.Job.{JobModel}
-use Rattle.lc_level.specs.Level.{FileLineModel, Fate, Level, faulted_level, listed_level, level, absent_faults, counted_in, failed_in}
-use Rattle.lc_level.specs.Level.{walked_in, skipped_in}
-use Rattle.lc_level.specs.Filters.{FiltersModel}
-use Rattle.lc_walk.specs.Found.{children_at}
-use Rattle.lc_level.specs.Deep.{has_too_deep}
-use Rattle.lc_walk.specs.RowViews.{ChildModel, ListedRowModel}
-use Rattle.lc_walk.specs.Rows.{row_of, job_of}
-use Rattle.lc_level.specs.SitePaths.{site_path}
-use Rattle.lc_walk.specs.declared.broken_cause.BrokenCause.{BrokenCause}
-use Rattle.lc_walk.specs.declared.broken_cause.BrokenCause.TheVariants.{Memory, TooManyDirs, TooDeep}
+use Rattle.lc_board.specs.{LegalHistory.posts_under, RowsInPlace.job_got, declared.{event.Event.Event, answers.Ended.Ended}}
+use Rattle.lc_level.specs.{Answers.Answers, WellFormed.IsWellFormed, Job.JobModel, Level.{FileLineModel, Fate, Level, faulted_level}}
+use Rattle.lc_level.specs.{Level.{listed_level, level, absent_faults, counted_in, failed_in, walked_in, skipped_in}, Filters.FiltersModel}
+use Rattle.lc_level.specs.{Deep.has_too_deep, SitePaths.site_path}
+use Rattle.lc_walk.specs.{Found.children_at, RowViews.{ChildModel, ListedRowModel}, Rows.{row_of, job_of}}
+use Rattle.lc_walk.specs.declared.broken_cause.BrokenCause.{BrokenCause, TheVariants.{Memory, TooManyDirs, TooDeep}}
 use Rattle.lc_walk.specs.declared.options.ReportLists.{ReportLists}
-use Rattle.lc_walk.specs.declared.row.FaultedRow.{FaultedRow}
-use Rattle.lc_walk.specs.declared.row.BrokenRow.{BrokenRow}
-use Rattle.lc_walk.specs.declared.row.Row.{Row}
-use Rattle.lc_walk.specs.declared.row.Row.TheVariants.{Listed, Faulted, Broken}
+use Rattle.lc_walk.specs.declared.row.{FaultedRow.FaultedRow, BrokenRow.BrokenRow, Row.{Row, TheVariants.{Listed, Faulted, Broken}}}
+use Rattle.lc_board.specs.declared.answers.Ended.TheVariants as ended
 
 -- what was requested of a walk: the lists of its report, and the filters that decide besides the rules which entries are skipped
 pub record Asked : Type 0 where

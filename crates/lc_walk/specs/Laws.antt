@@ -1,23 +1,10 @@
 -- The laws of the walk.
-use Rattle.std.specs.Prelude.{◌≡◌, ℕ, ◌≤◌, Bool, List, [], ◌∷◌, length, map, slice_get, Some}
-use Rattle.std.specs.List.Sorted.{IsPermutation}
-use Rattle.lc_board.specs.LegalHistory.{IsLegal}
-use Rattle.lc_board.specs.Part.{part}
-use Rattle.lc_board.specs.declared.event.Event.{Event}
-use Rattle.lc_board.specs.declared.answers.Ended.{Ended}
-use Rattle.lc_tree.specs.Paths.{names_of_path}
-use Rattle.lc_level.specs.Answers.{Answers, no_answers, Tree}
-use Rattle.lc_level.specs.Job.{JobModel}
-use Rattle.lc_level.specs.Level.{level}
-use Rattle.lc_level.specs.Filters.{FiltersModel}
-use Rattle.lc_walk.specs.Found.{path_of, children_at}
-use Rattle.lc_walk.specs.RecursiveWalk.{walk_by, walk_of}
-use Rattle.lc_walk.specs.Rows.{row_of, job_of}
-use Rattle.lc_tree.specs.ByteOrder.{AreApart}
-use Rattle.lc_walk.specs.Lawful.{Asked, IsLawful}
-use Rattle.lc_level.specs.WellFormed.{IsWellFormed}
-use Rattle.lc_walk.specs.TreeOfRows.{tree_from, children_by_rows, tree_of_rows, numbers_below}
-use Rattle.lc_walk.specs.ClosedWalks.{Walked, AreWhole, rows_found}
+use Rattle.std.specs.{Prelude.{◌≡◌, ℕ, ◌≤◌, Bool, List, [], ◌∷◌, length, map, slice_get, Some}, List.Sorted.IsPermutation}
+use Rattle.lc_board.specs.{LegalHistory.IsLegal, Part.part, declared.{event.Event.Event, answers.Ended.Ended}}
+use Rattle.lc_tree.specs.{Paths.names_of_path, ByteOrder.AreApart}
+use Rattle.lc_level.specs.{Answers.{Answers, no_answers, Tree}, Job.JobModel, Level.level, Filters.FiltersModel, WellFormed.IsWellFormed}
+use Rattle.lc_walk.specs.{Found.{path_of, children_at}, RecursiveWalk.{walk_by, walk_of}, Rows.{row_of, job_of}, Lawful.{Asked, IsLawful}}
+use Rattle.lc_walk.specs.{TreeOfRows.{tree_from, children_by_rows, tree_of_rows, numbers_below}, ClosedWalks.{Walked, AreWhole, rows_found}}
 use Rattle.lc_walk.specs.declared.row.Row.{Row}
 
 -- if no row is Broken, the recursive walk of the tree that the rows make finds what the rows found, for every depth that is at least the

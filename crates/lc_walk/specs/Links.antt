@@ -2,14 +2,9 @@
 use Rattle.std.specs.Prelude.{◌≡◌, ℕ, ◌<◌, ◌≤◌, Bool, true, false, ◌⊎◌, List, length, slice_get, Some}
 use Rattle.lc_board.specs.declared.answers.Ended.{Ended}
 use Rattle.lc_glob.specs.Path.{path_in}
-use Rattle.lc_walk.specs.RowViews.{ChildModel}
-use Rattle.lc_walk.specs.Rows.{row_of, job_of, children_in}
-use Rattle.lc_walk.specs.Assembled.{IsEdge, IsPlaced}
-use Rattle.lc_walk.specs.declared.row.Row.{Row}
-use Rattle.lc_walk.specs.declared.walk_fault.WalkFault.{WalkFault}
+use Rattle.lc_walk.specs.{RowViews.ChildModel, Rows.{row_of, job_of, children_in}, Assembled.{IsEdge, IsPlaced}, declared.row.Row.Row}
+use Rattle.lc_walk.specs.declared.{walk_fault.WalkFault.WalkFault, report.tree_check.TreeFault.{TreeFault, TheVariants.{Memory, Torn}}}
 use Rattle.lc_walk.specs.declared.walk_fault.WalkFault.TheVariants as fault
-use Rattle.lc_walk.specs.declared.report.tree_check.TreeFault.{TreeFault}
-use Rattle.lc_walk.specs.declared.report.tree_check.TreeFault.TheVariants.{Memory, Torn}
 
 -- the child at the place i of the row p comes before that at the place j of the row `at`
 abbrev pub Seen : ℕ → ℕ → ℕ → ℕ → Type 0

@@ -1,17 +1,9 @@
 -- A walk of an in-memory tree.
 use Rattle.std.specs.Prelude.{◌≡◌, ℕ, ◌≤◌, true, Ok}
 use Rattle.lc_board.specs.ClosedBoard.{Promises}
-use Rattle.lc_level.specs.Job.{JobModel}
-use Rattle.lc_level.specs.NodeTrees.{tree_of_node}
-use Rattle.lc_level.specs.OneAnswer.{FitsMemory}
-use Rattle.lc_level.specs.Filters.{FiltersModel}
-use Rattle.lc_level.specs.TreeAnswers.{MayAnswer}
-use Rattle.lc_tree.specs.MemTrees.{mem_lists, mem_gives}
-use Rattle.lc_tree.specs.declared.node.Node.{Node}
-use Rattle.lc_walk.specs.Lawful.{Asked}
-use Rattle.lc_walk.specs.RecursiveWalk.{walk_of}
-use Rattle.lc_walk.specs.BoardAnswers.{IsOneAnswer, WalkAnswers}
-use Rattle.lc_walk.specs.FoundReports.{IsReportOf}
+use Rattle.lc_level.specs.{Job.JobModel, NodeTrees.tree_of_node, OneAnswer.FitsMemory, Filters.FiltersModel, TreeAnswers.MayAnswer}
+use Rattle.lc_tree.specs.{MemTrees.{mem_lists, mem_gives}, declared.node.Node.Node}
+use Rattle.lc_walk.specs.{Lawful.Asked, RecursiveWalk.walk_of, BoardAnswers.{IsOneAnswer, WalkAnswers}, FoundReports.IsReportOf}
 use Rattle.lc_walk.specs.declared.report.Report.{Report}
 
 -- an in-memory tree always answers as the tree that its node describes

@@ -1,20 +1,10 @@
 -- What a walk of some paths finds, by what the walk of the whole tree finds.
-use Rattle.std.specs.Prelude.{◌≡◌, ◌≢◌, ◌⊎◌, ℕ, ◌<◌, true, List, [], ◌∷◌, ◌++◌, length}
-use Rattle.std.specs.List.{Contains, AllByRecursion}
-use Rattle.lc_glob.specs.Bytes.{slash}
-use Rattle.lc_glob.specs.Path.{path_in, is_good_path}
-use Rattle.lc_level.specs.Answers.{Tree}
-use Rattle.lc_level.specs.Job.{JobModel}
-use Rattle.lc_level.specs.Level.{FileLineModel, SkippedLineModel, faulted_level, level}
-use Rattle.lc_level.specs.Filters.{FiltersModel, narrowed}
-use Rattle.lc_level.specs.WellFormed.{IsWellFormed}
-use Rattle.lc_tree.specs.Kinds.{is_dir}
-use Rattle.lc_tree.specs.declared.entry.Kind.{Kind}
-use Rattle.lc_level.specs.declared.fault_word.FaultWord.{FaultWord}
-use Rattle.lc_level.specs.declared.fault_word.FaultWord.TheVariants.{Absent}
-use Rattle.lc_walk.specs.Found.{Found, found_file, found_fault, found_directory, found_skipped}
-use Rattle.lc_walk.specs.FoundAt.{LeadsTo}
-use Rattle.lc_walk.specs.GivenAnswers.{HasListings}
+use Rattle.std.specs.{Prelude.{◌≡◌, ◌≢◌, ◌⊎◌, ℕ, ◌<◌, true, List, [], ◌∷◌, ◌++◌, length}, List.{Contains, AllByRecursion}}
+use Rattle.lc_glob.specs.{Bytes.slash, Path.{path_in, is_good_path}}
+use Rattle.lc_level.specs.{Answers.Tree, Job.JobModel, Level.{FileLineModel, SkippedLineModel, faulted_level, level}, Filters.FiltersModel}
+use Rattle.lc_level.specs.{Filters.narrowed, WellFormed.IsWellFormed, declared.fault_word.FaultWord.{FaultWord, TheVariants.Absent}}
+use Rattle.lc_tree.specs.{Kinds.is_dir, declared.entry.Kind.Kind}
+use Rattle.lc_walk.specs.{Found.{Found, found_file, found_fault, found_directory, found_skipped}, FoundAt.LeadsTo, GivenAnswers.HasListings}
 use Rattle.lc_walk.specs.RecursiveWalk.{walk_of}
 
 -- a path is below another

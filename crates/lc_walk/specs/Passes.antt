@@ -1,15 +1,9 @@
 -- Closing a board: what the call requires, and what the workers of its passes have done before.
 use Rattle.std.specs.Prelude.{◌≡◌, ℕ, ◌≤◌, List, [], length, slice_get, Some}
-use Rattle.lc_board.specs.Limits.{capacity_limit}
-use Rattle.lc_board.specs.Pass.{Pass}
-use Rattle.lc_walk.specs.Tally.{TallyModel, StandsFor}
-use Rattle.lc_level.specs.Answers.{Answers}
-use Rattle.lc_level.specs.Job.{JobModel}
-use Rattle.lc_level.specs.Filters.{FiltersModel}
-use Rattle.lc_walk.specs.Lawful.{Asked}
-use Rattle.lc_walk.specs.WorkerResults.{AreLawful, FoundOver, files_of_passes}
-use Rattle.lc_walk.specs.declared.options.ReportLists.{ReportLists}
-use Rattle.lc_walk.specs.declared.row.Row.{Row}
+use Rattle.lc_board.specs.{Limits.capacity_limit, Pass.Pass}
+use Rattle.lc_walk.specs.{Tally.{TallyModel, StandsFor}, Lawful.Asked, WorkerResults.{AreLawful, FoundOver, files_of_passes}}
+use Rattle.lc_walk.specs.declared.{options.ReportLists.ReportLists, row.Row.Row}
+use Rattle.lc_level.specs.{Answers.Answers, Job.JobModel, Filters.FiltersModel}
 
 -- a board of this capacity and number of workers may be closed with these passes. The board has room, workers and the top of a tree. The
 -- passes are the board's own, one for each worker, in order

@@ -1,17 +1,9 @@
 -- How posting child directories changes a worker's pass.
-use Rattle.std.specs.Prelude.{◌≡◌, ℕ, ◌<◌, true, List, ◌++◌, length, take, Vec, Result, Ok, Err}
-use Rattle.std.specs.Global.{Global}
-use Rattle.std.specs.List.{AllByRecursion}
-use Rattle.lc_board.specs.Holding.{posts_held}
-use Rattle.lc_board.specs.Pass.{Pass}
-use Rattle.lc_board.specs.declared.event.Event.{Event}
-use Rattle.lc_board.specs.declared.event.Event.TheVariants.{Post, Claim, Return, Fault, Over}
+use Rattle.std.specs.{Prelude.{◌≡◌, ℕ, ◌<◌, true, List, ◌++◌, length, take, Vec, Result, Ok, Err}, Global.Global, List.AllByRecursion}
+use Rattle.lc_board.specs.{Holding.posts_held, Pass.Pass, declared.event.Event.{Event, TheVariants.{Post, Claim, Return, Fault, Over}}}
 use Rattle.lc_level.specs.Job.{JobModel}
-use Rattle.lc_walk.specs.Lawful.{jobs_of, named}
-use Rattle.lc_walk.specs.RowViews.{ChildModel}
-use Rattle.lc_walk.specs.declared.broken_cause.BrokenCause.{BrokenCause}
-use Rattle.lc_walk.specs.declared.broken_cause.BrokenCause.TheVariants.{Memory, TooManyDirs, TooDeep}
-use Rattle.lc_walk.specs.declared.row.Row.{Row}
+use Rattle.lc_walk.specs.{Lawful.{jobs_of, named}, RowViews.ChildModel}
+use Rattle.lc_walk.specs.declared.{broken_cause.BrokenCause.{BrokenCause, TheVariants.{Memory, TooManyDirs, TooDeep}}, row.Row.Row}
 
 abbrev pub IsPost : Event JobModel Row → Type 0
 IsPost (Post w p i j) = Unit {0}

@@ -1,8 +1,6 @@
 -- The recursive walk over a tree: what all workers of a walk together must find.
 use Rattle.std.specs.Prelude.{ℕ, zero, suc, List, [], ◌∷◌, ◌++◌}
-use Rattle.lc_level.specs.Answers.{Tree}
-use Rattle.lc_level.specs.Job.{JobModel}
-use Rattle.lc_level.specs.Filters.{FiltersModel}
+use Rattle.lc_level.specs.{Answers.Tree, Job.JobModel, Filters.FiltersModel}
 use Rattle.lc_walk.specs.Found.{Found, found_at, children_at}
 
 -- for answers of any type: what the directory contributes, then the walks of its child directories, one after another

@@ -1,15 +1,10 @@
 -- The report of a walk.
-use Rattle.std.specs.Prelude.{◌≡◌, List}
-use Rattle.std.specs.List.Sorted.{IsPermutation, IsSortedByKey}
-use Rattle.lc_walk.specs.Tally.{TallyModel, CountedFile, StandsFor, IsTally}
-use Rattle.lc_walk.specs.TallyRows.{AddsUp}
-use Rattle.lc_walk.specs.ReportLines.{file_paths, fault_paths, skipped_paths}
-use Rattle.lc_level.specs.FaultLines.{FaultLineModel}
+use Rattle.std.specs.{Prelude.{◌≡◌, List}, List.Sorted.{IsPermutation, IsSortedByKey}}
+use Rattle.lc_walk.specs.{Tally.{TallyModel, CountedFile, StandsFor, IsTally}, TallyRows.AddsUp, ReportLines.{file_paths, fault_paths}}
+use Rattle.lc_walk.specs.{ReportLines.skipped_paths, declared.options.ReportLists.ReportLists}
+use Rattle.lc_walk.specs.declared.report.{Report.Report, findings.Findings.Findings}
+use Rattle.lc_level.specs.{FaultLines.FaultLineModel, Level.{SkippedLineModel, FileLineModel}}
 use Rattle.lc_tree.specs.ByteOrder.{bytes_cmp, AreApart, AreInOrder}
-use Rattle.lc_walk.specs.declared.options.ReportLists.{ReportLists}
-use Rattle.lc_walk.specs.declared.report.Report.{Report}
-use Rattle.lc_walk.specs.declared.report.findings.Findings.{Findings}
-use Rattle.lc_level.specs.Level.{SkippedLineModel, FileLineModel}
 
 -- the report made from a tally and findings, with the requested lists. Each list is in the order of the bytes of the paths, strictly if no
 -- path is in it twice

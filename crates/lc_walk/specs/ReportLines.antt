@@ -1,7 +1,6 @@
 -- The paths of a report's lines.
 use Rattle.std.specs.Prelude.{ℕ, List, map}
-use Rattle.lc_level.specs.FaultLines.{FaultLineModel}
-use Rattle.lc_level.specs.Level.{FileLineModel, SkippedLineModel}
+use Rattle.lc_level.specs.{FaultLines.FaultLineModel, Level.{FileLineModel, SkippedLineModel}}
 
 -- the paths of files, in order
 abbrev pub file_paths : List FileLineModel → List (List ℕ)

@@ -1,16 +1,10 @@
 -- The totals of a report.
-use Rattle.std.specs.Prelude.{◌≡◌, ℕ, true, List, map, Ok}
-use Rattle.std.specs.List.{after_last}
-use Rattle.lc_glob.specs.Bytes.{slash}
-use Rattle.lc_glob.specs.Pieces.{is_byte}
+use Rattle.std.specs.{Prelude.{◌≡◌, ℕ, true, List, map, Ok}, List.after_last}
+use Rattle.lc_glob.specs.{Bytes.slash, Pieces.is_byte}
 use Rattle.lc_level.specs.Level.{FileLineModel}
 use Rattle.lc_tree.specs.Trees.{Listings, Contents}
-use Rattle.lc_walk.specs.Extension.{extension_of}
-use Rattle.lc_walk.specs.Tally.{CountedFile, IsTally, counted, sums_of_files}
-use Rattle.lc_walk.specs.TallyRows.{sums_of_rows}
-use Rattle.lc_walk.specs.Walks.{Walks}
-use Rattle.lc_walk.specs.declared.options.Options.{Options}
-use Rattle.lc_walk.specs.declared.report.Report.{Report}
+use Rattle.lc_walk.specs.{Extension.extension_of, Tally.{CountedFile, IsTally, counted, sums_of_files}, TallyRows.sums_of_rows, Walks.Walks}
+use Rattle.lc_walk.specs.declared.{options.Options.Options, report.Report.Report}
 
 -- a file of a report, as the tally counts it: by the extension of what is after the last slash of its path
 abbrev pub counted_line : FileLineModel → CountedFile

@@ -1,9 +1,6 @@
 -- What is stored of a listed directory, and the row that it stands for: without anything to list, no lists are stored.
-use Rattle.std.specs.Prelude.{[]}
-use Rattle.std.specs.Box.{box_value}
-use Rattle.lc_walk.specs.RowViews.{ListedRowModel}
-use Rattle.lc_walk.specs.declared.row.RowParts.{RowParts}
-use Rattle.lc_walk.specs.declared.row.RowParts.TheVariants.{Bare, Full}
+use Rattle.std.specs.{Prelude.[], Box.box_value}
+use Rattle.lc_walk.specs.{RowViews.ListedRowModel, declared.row.RowParts.{RowParts, TheVariants.{Bare, Full}}}
 
 abbrev pub listed_in : RowParts → ListedRowModel
 listed_in (Bare job entries) = record { job = job; entries = entries; files = []; faults = []; skipped = []; children = [] }

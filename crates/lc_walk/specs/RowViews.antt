@@ -1,8 +1,6 @@
 -- The parts of the row of a listed directory, as contracts see them.
 use Rattle.std.specs.Prelude.{ℕ, List}
-use Rattle.lc_level.specs.Job.{JobModel}
-use Rattle.lc_level.specs.Level.{FileLineModel, SkippedLineModel}
-use Rattle.lc_level.specs.FaultLines.{FaultLineModel}
+use Rattle.lc_level.specs.{Job.JobModel, Level.{FileLineModel, SkippedLineModel}, FaultLines.FaultLineModel}
 
 -- a child directory that was posted: its name, and its number on the board
 pub record ChildModel : Type 0 where

@@ -1,11 +1,9 @@
 -- Rows: what a worker finds in a directory.
 use Rattle.std.specs.Prelude.{List, []}
 use Rattle.lc_board.specs.declared.answers.Ended.{Ended}
-use Rattle.lc_board.specs.declared.answers.Ended.TheVariants as ended
 use Rattle.lc_level.specs.Job.{JobModel}
-use Rattle.lc_walk.specs.RowViews.{ChildModel}
-use Rattle.lc_walk.specs.declared.row.Row.{Row}
-use Rattle.lc_walk.specs.declared.row.Row.TheVariants.{Listed, Faulted, Broken}
+use Rattle.lc_walk.specs.{RowViews.ChildModel, declared.row.Row.{Row, TheVariants.{Listed, Faulted, Broken}}}
+use Rattle.lc_board.specs.declared.answers.Ended.TheVariants as ended
 
 abbrev pub row_of : {R : Type 0} → Ended R → R
 row_of (ended.Returned r) = r

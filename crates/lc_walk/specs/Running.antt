@@ -1,19 +1,10 @@
 -- What is true after all workers of a walk have run.
-use Rattle.std.specs.Prelude.{◌≡◌, ℕ, ◌<◌, List, length, slice_get, slice_index_or, Option, Some}
-use Rattle.std.specs.List.{flat_map}
+use Rattle.std.specs.{Prelude.{◌≡◌, ℕ, ◌<◌, List, length, slice_get, slice_index_or, Option, Some}, List.flat_map}
 use Rattle.lc_board.specs.Pass.{Pass}
-use Rattle.lc_level.specs.Answers.{Answers}
-use Rattle.lc_level.specs.Job.{JobModel}
-use Rattle.lc_walk.specs.BoardPasses.{IsFree, IsPassOf}
-use Rattle.lc_walk.specs.Lawful.{Asked}
-use Rattle.lc_walk.specs.Serving.{EndsAs}
-use Rattle.lc_walk.specs.Tally.{TallyModel, CountedFile, StandsFor}
-use Rattle.lc_walk.specs.TreeOfRows.{numbers_below}
-use Rattle.lc_walk.specs.WorkerResults.{TalliesFor, HasWorked}
-use Rattle.lc_walk.specs.declared.row.Row.{Row}
-use Rattle.lc_walk.specs.declared.worker.StopReason.{StopReason}
-use Rattle.lc_walk.specs.declared.worker.StopReason.TheVariants.{Over}
-use Rattle.lc_walk.specs.declared.worker.WorkerResult.{WorkerResult}
+use Rattle.lc_level.specs.{Answers.Answers, Job.JobModel}
+use Rattle.lc_walk.specs.{BoardPasses.{IsFree, IsPassOf}, Lawful.Asked, Serving.EndsAs, Tally.{TallyModel, CountedFile, StandsFor}}
+use Rattle.lc_walk.specs.{TreeOfRows.numbers_below, WorkerResults.{TalliesFor, HasWorked}, declared.row.Row.Row}
+use Rattle.lc_walk.specs.declared.worker.{StopReason.{StopReason, TheVariants.Over}, WorkerResult.WorkerResult}
 
 -- between the first state of its pass and the last, a worker has worked; it stopped for the reason `end`, with this tally
 pub record HasRun (ask : Asked) (MayAnswer : List ℕ → Answers → Type 0)

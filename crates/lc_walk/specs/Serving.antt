@@ -1,18 +1,10 @@
 -- What a worker does with a directory that it has claimed.
-use Rattle.std.specs.Prelude.{◌≡◌, ℕ, true, List, [], ◌++◌, Option, Some, None, Result, Ok, Err}
-use Rattle.std.specs.declared.alloc.AllocError.{AllocError}
-use Rattle.lc_board.specs.Holding.{job_held, posts_held}
-use Rattle.lc_board.specs.Pass.{Pass, holding, posted}
-use Rattle.lc_level.specs.Answers.{Answers}
-use Rattle.lc_level.specs.Job.{JobModel}
-use Rattle.lc_walk.specs.Lawful.{Asked}
-use Rattle.lc_walk.specs.Tally.{TallyModel, CountedFile, StandsFor}
-use Rattle.lc_walk.specs.WorkerResults.{HasWorked, FoundOver}
-use Rattle.lc_walk.specs.declared.broken_cause.BrokenCause.{BrokenCause}
-use Rattle.lc_walk.specs.declared.broken_cause.BrokenCause.TheVariants.{Memory, TooManyDirs, TooDeep}
-use Rattle.lc_walk.specs.declared.row.Row.{Row}
-use Rattle.lc_walk.specs.declared.worker.StopReason.{StopReason}
-use Rattle.lc_walk.specs.declared.worker.StopReason.TheVariants.{Over, Memory as NoMemory}
+use Rattle.std.specs.{Prelude.{◌≡◌, ℕ, true, List, [], ◌++◌, Option, Some, None, Result, Ok, Err}, declared.alloc.AllocError.AllocError}
+use Rattle.lc_board.specs.{Holding.{job_held, posts_held}, Pass.{Pass, holding, posted}}
+use Rattle.lc_level.specs.{Answers.Answers, Job.JobModel}
+use Rattle.lc_walk.specs.{Lawful.Asked, Tally.{TallyModel, CountedFile, StandsFor}, WorkerResults.{HasWorked, FoundOver}}
+use Rattle.lc_walk.specs.declared.{broken_cause.BrokenCause.{BrokenCause, TheVariants.{Memory, TooManyDirs, TooDeep}}, row.Row.Row}
+use Rattle.lc_walk.specs.declared.worker.StopReason.{StopReason, TheVariants.{Over, Memory as NoMemory}}
 
 -- the worker holds a claim, got this job with it, and has posted nothing under it
 pub record HoldsJob (j : JobModel) (p : Pass JobModel Row) : Type 0 where

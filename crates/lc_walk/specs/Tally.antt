@@ -1,12 +1,9 @@
 -- The tally of a list of counted files.
-use Rattle.std.specs.Prelude.{◌≡◌, ℕ, ◌<◌, List, Option, length, All}
-use Rattle.std.specs.List.{filter, sum_by}
-use Rattle.lc_walk.specs.Key.{Key, same_key}
-use Rattle.lc_walk.specs.Sums.{plus, IsModest}
-use Rattle.lc_walk.specs.TallyRows.{TallyRowModel, sums_of_rows, rows_with, IsInOrder, Gains}
+use Rattle.std.specs.{Prelude.{◌≡◌, ℕ, ◌<◌, List, Option, length, All}, List.{filter, sum_by}}
+use Rattle.lc_walk.specs.{Key.{Key, same_key}, Sums.{plus, IsModest}, TallyRows.{TallyRowModel, sums_of_rows, rows_with, IsInOrder, Gains}}
+use Rattle.lc_walk.specs.declared.tally.sums.Sums.{Sums}
 use Rattle.lc_rules.specs.declared.states.TextState.{TextState}
 use Rattle.lc_census.specs.declared.line_count.Count.{Count}
-use Rattle.lc_walk.specs.declared.tally.sums.Sums.{Sums}
 
 -- what a tally needs of a counted file
 pub record CountedFile : Type 0 where

@@ -1,10 +1,7 @@
 -- The rows of a tally.
-use Rattle.std.specs.Prelude.{◌≡◌, ◌<◌, Bool, cond, List, [], ◌∷◌, ◌++◌, map, All}
-use Rattle.std.specs.List.{filter, sum_by, list_any}
+use Rattle.std.specs.{Prelude.{◌≡◌, ◌<◌, Bool, cond, List, [], ◌∷◌, ◌++◌, map, All}, List.{filter, sum_by, list_any}}
 use Rattle.std.specs.List.Sorted.{IsStrictlySortedBy}
-use Rattle.lc_walk.specs.Key.{Key, key_cmp, same_key}
-use Rattle.lc_walk.specs.Sums.{plus, IsInRange}
-use Rattle.lc_walk.specs.declared.tally.sums.Sums.{Sums}
+use Rattle.lc_walk.specs.{Key.{Key, key_cmp, same_key}, Sums.{plus, IsInRange}, declared.tally.sums.Sums.Sums}
 
 -- a key, and the sums over some files that have it
 pub record TallyRowModel : Type 0 where

@@ -2,9 +2,7 @@
 use Rattle.std.specs.Prelude.{ℕ, zero, suc, cond, List, [], ◌∷◌, ◌++◌, slice_get, Option, Some, None, bytes_eq}
 use Rattle.lc_board.specs.declared.answers.Ended.{Ended}
 use Rattle.lc_level.specs.Answers.{Answers, no_answers, Tree}
-use Rattle.lc_walk.specs.RowViews.{ChildModel}
-use Rattle.lc_walk.specs.Rows.{row_of, children_in}
-use Rattle.lc_walk.specs.declared.row.Row.{Row}
+use Rattle.lc_walk.specs.{RowViews.ChildModel, Rows.{row_of, children_in}, declared.row.Row.Row}
 
 -- the number of the child with this name
 abbrev pub child_number : List ℕ → List ChildModel → Option ℕ

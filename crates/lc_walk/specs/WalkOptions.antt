@@ -1,11 +1,8 @@
 -- What the options of a walk request.
 use Rattle.std.specs.Prelude.{◌≡◌, ◌≤◌, ℕ, false}
 use Rattle.lc_board.specs.Limits.{capacity_limit, workers_limit}
-use Rattle.lc_level.specs.Filters.{FiltersModel}
-use Rattle.lc_level.specs.Job.{JobModel}
-use Rattle.lc_level.specs.TopJob.{top_job}
-use Rattle.lc_walk.specs.Lawful.{Asked}
-use Rattle.lc_walk.specs.declared.options.Options.{Options}
+use Rattle.lc_level.specs.{Filters.FiltersModel, Job.JobModel, TopJob.top_job}
+use Rattle.lc_walk.specs.{Lawful.Asked, declared.options.Options.Options}
 
 -- the numbers of threads and of directories are at least 1 and at most their limits
 pub record AreWithinLimits (o : Options) : Type 0 where

@@ -3,12 +3,9 @@ use Rattle.std.specs.Prelude.{ℕ, List, Result, Ok, Err}
 use Rattle.lc_board.specs.WordClose.{words_promises}
 use Rattle.lc_level.specs.TreeAnswers.{MayAnswer}
 use Rattle.lc_tree.specs.Trees.{Listings, Contents}
-use Rattle.lc_walk.specs.BoardAnswers.{IsWalkReport, IsTooDeepSomewhere, FillsAll}
-use Rattle.lc_walk.specs.WalkOptions.{asked_by, top_of}
-use Rattle.lc_walk.specs.declared.options.Options.{Options}
-use Rattle.lc_walk.specs.declared.report.Report.{Report}
-use Rattle.lc_walk.specs.declared.walk_fault.WalkFault.{WalkFault}
-use Rattle.lc_walk.specs.declared.walk_fault.WalkFault.TheVariants.{Memory, TooManyDirs, TooDeep, Torn, Mismatch}
+use Rattle.lc_walk.specs.{BoardAnswers.{IsWalkReport, IsTooDeepSomewhere, FillsAll}, WalkOptions.{asked_by, top_of}}
+use Rattle.lc_walk.specs.declared.{options.Options.Options, report.Report.Report}
+use Rattle.lc_walk.specs.declared.walk_fault.WalkFault.{WalkFault, TheVariants.{Memory, TooManyDirs, TooDeep, Torn, Mismatch}}
 
 -- what each result of a walk by these options means, over a board of words: a report, or why there is none. `lists` and `gives` are the
 -- listings and the file contents that the tree may give. The errors Torn and Mismatch never occur

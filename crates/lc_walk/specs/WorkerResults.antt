@@ -1,24 +1,13 @@
 -- What is true of the rows and the tally of a worker.
 use Rattle.std.specs.Prelude.{◌⊎◌, ◌≡◌, ℕ, Bool, List, [], ◌∷◌, ◌++◌, Option, Some, None, map, flat_map, length, slice_get}
-use Rattle.lc_board.specs.Holding.{job_held, posts_held}
-use Rattle.lc_board.specs.Pass.{Pass}
-use Rattle.lc_board.specs.declared.event.Event.{Event}
-use Rattle.lc_board.specs.declared.event.Event.TheVariants.{Post, Claim, Return, Fault, Over}
-use Rattle.lc_board.specs.declared.answers.Ended.{Ended}
-use Rattle.lc_board.specs.declared.answers.Ended.TheVariants as ended
-use Rattle.lc_walk.specs.Tally.{TallyModel, CountedFile, StandsFor}
+use Rattle.lc_board.specs.{Holding.{job_held, posts_held}, Pass.Pass}
+use Rattle.lc_board.specs.declared.{event.Event.{Event, TheVariants.{Post, Claim, Return, Fault, Over}}, answers.Ended.Ended}
 use Rattle.lc_board.specs.Ends.{EachEnd}
-use Rattle.lc_level.specs.Answers.{Answers}
-use Rattle.lc_level.specs.Job.{JobModel}
-use Rattle.lc_walk.specs.Rows.{row_of, job_of}
-use Rattle.lc_walk.specs.Lawful.{Asked, Says, files_at}
-use Rattle.lc_level.specs.WellFormed.{IsWellFormed}
-use Rattle.lc_walk.specs.TreeOfRows.{numbers_below}
-use Rattle.lc_walk.specs.FoundReports.{tallied}
-use Rattle.lc_walk.specs.Assembled.{IsBrokenBy}
-use Rattle.lc_walk.specs.declared.broken_cause.BrokenCause.TheVariants.{Memory}
-use Rattle.lc_walk.specs.declared.row.Row.{Row}
-use Rattle.lc_walk.specs.declared.row.Row.TheVariants.{Listed, Faulted, Broken}
+use Rattle.lc_walk.specs.{Tally.{TallyModel, CountedFile, StandsFor}, Rows.{row_of, job_of}, Lawful.{Asked, Says, files_at}}
+use Rattle.lc_walk.specs.{TreeOfRows.numbers_below, FoundReports.tallied, Assembled.IsBrokenBy}
+use Rattle.lc_walk.specs.declared.{broken_cause.BrokenCause.TheVariants.Memory, row.Row.{Row, TheVariants.{Listed, Faulted, Broken}}}
+use Rattle.lc_level.specs.{Answers.Answers, Job.JobModel, WellFormed.IsWellFormed}
+use Rattle.lc_board.specs.declared.answers.Ended.TheVariants as ended
 
 -- the counted files of a returned row, by its answers
 abbrev pub returned_files : Asked → Row → Answers → List CountedFile

@@ -1,7 +1,6 @@
 use Rattle.std.proofs.Common.{map, sym, ◌∙◌, subst, arith, Err}
-use Rattle.lc_walk.specs.Passes.{asked}
+use Rattle.lc_walk.specs.{Passes.asked, BoardAnswers.WalkAnswers}
 use Rattle.lc_level.specs.TreeAnswers.{MayAnswer}
-use Rattle.lc_walk.specs.BoardAnswers.{WalkAnswers}
 use Rattle.lc_walk.proofs.AnswersOfClose.{assembled_walk, refused_walk, few_rows, mapped}
 use Rattle.lc_walk.proofs.closing.finish.Goals as goal
 

@@ -1,6 +1,5 @@
-use Rattle.std.proofs.Common.{rules}
+use Rattle.std.proofs.{Common.rules, lemmas.Fn.always_returns_same}
 use Rattle.std.specs.Ordering.{is_lt}
-use Rattle.std.proofs.lemmas.Fn.{always_returns_same}
 use Rattle.lc_tree.specs.ByteOrder.{bytes_cmp}
 use Rattle.lc_tree.proofs.Sorting.{sorted_paths, paths_rank}
 use Rattle.lc_walk.proofs.report.sort_lines.Goals as goal

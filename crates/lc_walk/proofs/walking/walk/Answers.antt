@@ -1,7 +1,6 @@
 use Rattle.std.proofs.Common.{rules}
 use denote.Param.Send.{sendable}
-use Rattle.lc_walk.proofs.SentAndShared.{crosses}
-use Rattle.lc_walk.proofs.AnswersOfClose.{by_words}
+use Rattle.lc_walk.proofs.{SentAndShared.crosses, AnswersOfClose.by_words}
 use Rattle.lc_walk.proofs.walking.walk.Goals as goal
 
 pub walk_on-requires-send-B-Pass : goal.walk_on-requires-send-B-Pass

@@ -2,12 +2,9 @@ use Rattle.std.proofs.Common.{rules, arith, ◌≡◌, ◌≤◌, length, map, s
 use Rattle.std.proofs.lemmas.Option.{slice_get-get_or}
 use Rattle.lc_board.proofs.ReturnedPasses.{still_in_order, taken_in_order}
 use Rattle.lc_board.specs.Limits.{capacity_limit}
-use Rattle.lc_level.specs.Job.{JobModel}
-use Rattle.lc_level.specs.TreeAnswers.{MayAnswer}
-use Rattle.lc_walk.specs.Passes.{HaveWorked}
-use Rattle.lc_walk.specs.WalkOptions.{asked_by}
-use Rattle.lc_walk.proofs.AllWorked.{have_worked}
-use Rattle.lc_walk.proofs.AnswersOfClose.{mapped}
+use Rattle.lc_level.specs.{Job.JobModel, TreeAnswers.MayAnswer}
+use Rattle.lc_walk.specs.{Passes.HaveWorked, WalkOptions.asked_by}
+use Rattle.lc_walk.proofs.{AllWorked.have_worked, AnswersOfClose.mapped}
 use Rattle.lc_walk.proofs.walking.walk_by.Goals as goal
 
 pub run_all-requires-after_bounds : goal.run_all-requires-after_bounds

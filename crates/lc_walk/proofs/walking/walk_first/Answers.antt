@@ -1,7 +1,6 @@
 use Rattle.std.proofs.Common.{arith}
 use denote.Param.Send.{sendable}
-use Rattle.lc_walk.proofs.FewerWorkers.{small_report}
-use Rattle.lc_walk.proofs.SentAndShared.{crosses}
+use Rattle.lc_walk.proofs.{FewerWorkers.small_report, SentAndShared.crosses}
 use Rattle.lc_walk.proofs.walking.walk_first.Goals as goal
 
 pub walk_by-requires-send-B-Pass : goal.walk_by-requires-send-B-Pass

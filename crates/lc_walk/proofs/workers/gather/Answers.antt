@@ -1,7 +1,5 @@
-use Rattle.std.proofs.Common.{◌∷◌, [], ◌++◌, sym, ap, ◌∙◌, subst, append_assoc}
-use Rattle.std.proofs.lemmas.List.{map-append, nil_from_length}
-use Rattle.lc_walk.specs.Running.{TalliesAll}
-use Rattle.lc_walk.specs.declared.worker.WorkerResult.{WorkerResult}
+use Rattle.std.proofs.{Common.{◌∷◌, [], ◌++◌, sym, ap, ◌∙◌, subst, append_assoc}, lemmas.List.{map-append, nil_from_length}}
+use Rattle.lc_walk.specs.{Running.TalliesAll, declared.worker.WorkerResult.WorkerResult}
 use Rattle.lc_walk.proofs.Gathering.{over_more, tallies_more, all_done}
 use Rattle.lc_walk.proofs.workers.gather.Goals as goal
 

@@ -1,11 +1,7 @@
 use Rattle.std.proofs.Common.{◌≡◌, ◌∙◌, ◌<◌, ◌≤◌, ◌+◌, ℕ, List, Some, get_or, length, slice_get, sym, ap, arith, subst, ⊎_elim}
-use Rattle.std.proofs.lemmas.Bool.{cases_lt}
-use Rattle.std.proofs.lemmas.Option.{get_or_from_slice_get, slice_get_within}
-use Rattle.lc_walk.specs.Rows.{row_of}
-use Rattle.lc_walk.specs.Assembled.{IsBrokenBy}
+use Rattle.std.proofs.lemmas.{Bool.cases_lt, Option.{get_or_from_slice_get, slice_get_within}}
+use Rattle.lc_walk.specs.{Rows.row_of, Assembled.IsBrokenBy, declared.{broken_cause.BrokenCause.BrokenCause, row.Row.Row}}
 use Rattle.lc_board.specs.declared.answers.Ended.{Ended}
-use Rattle.lc_walk.specs.declared.broken_cause.BrokenCause.{BrokenCause}
-use Rattle.lc_walk.specs.declared.row.Row.{Row}
 use Rattle.lc_walk.proofs.report.assembly.some_broken.Goals as goal
 
 module _ (rows : List (Ended Row)) (cause : BrokenCause) where

@@ -1,8 +1,6 @@
 use Rattle.std.proofs.Common.{◌≡◌, ℕ, ◌<◌, slice_get, Some}
 use Rattle.lc_board.specs.declared.answers.Ended.{Ended}
-use Rattle.lc_walk.specs.Rows.{row_of}
-use Rattle.lc_walk.specs.Assembled.{IsBrokenBy}
-use Rattle.lc_walk.specs.declared.row.Row.{Row}
+use Rattle.lc_walk.specs.{Rows.row_of, Assembled.IsBrokenBy, declared.row.Row.Row}
 use Rattle.lc_walk.proofs.report.assembly.some_broken.Given as goal
 
 abbrev pub invariant-loop-at : goal.invariant-loop-at

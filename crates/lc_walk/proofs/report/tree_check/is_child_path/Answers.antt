@@ -1,6 +1,4 @@
-use Rattle.std.proofs.Common.{◌∙◌, sym, ap}
-use Rattle.std.proofs.lemmas.Bool.Decides.{Decides-eqb}
-use Rattle.std.proofs.lemmas.Slice.Eq.{slice_eq-Decides}
+use Rattle.std.proofs.{Common.{◌∙◌, sym, ap}, lemmas.{Bool.Decides.Decides-eqb, Slice.Eq.slice_eq-Decides}}
 use Rattle.lc_walk.specs.RowViews.{ChildModel}
 use Rattle.lc_level.proofs.PathNames.{one_name}
 use Rattle.lc_walk.proofs.report.tree_check.is_child_path.Goals as goal

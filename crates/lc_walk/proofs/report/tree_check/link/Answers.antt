@@ -1,6 +1,5 @@
 use Rattle.std.proofs.Common.{◌+◌, true, slice_get, slice_set, Some, sym, ◌∙◌, ap, subst, arith, inl, inr}
-use Rattle.lc_walk.specs.Assembled.{IsPlaced}
-use Rattle.lc_walk.specs.Links.{AreLinked, IsPathAt}
+use Rattle.lc_walk.specs.{Assembled.IsPlaced, Links.{AreLinked, IsPathAt}}
 use Rattle.lc_walk.proofs.Marking.{marks_skip, torn_twice, torn_low, torn_path, marks_set}
 use Rattle.lc_walk.proofs.report.tree_check.link.Goals as goal
 

@@ -1,7 +1,5 @@
-use Rattle.std.proofs.Common.{◌≡◌, length, ◌∙◌, ap, subst, arith, refl}
-use Rattle.std.proofs.lemmas.Option.{slice_get_read}
-use Rattle.lc_walk.specs.Rows.{row_of, children_in}
-use Rattle.lc_walk.specs.Links.{AreLinked}
+use Rattle.std.proofs.{Common.{◌≡◌, length, ◌∙◌, ap, subst, arith, refl}, lemmas.Option.slice_get_read}
+use Rattle.lc_walk.specs.{Rows.{row_of, children_in}, Links.AreLinked}
 use Rattle.lc_walk.proofs.Marking.{marks_row}
 use Rattle.lc_walk.proofs.report.tree_check.link_row.Goals as goal
 

@@ -1,9 +1,6 @@
-use Rattle.std.proofs.Common.{rules}
+use Rattle.std.proofs.{Common.rules, lemmas.{Fn.always_returns_same, List.Sorted.ranks_by}}
 use Rattle.std.specs.Ordering.{is_lt}
-use Rattle.std.proofs.lemmas.Fn.{always_returns_same}
-use Rattle.std.proofs.lemmas.List.Sorted.{ranks_by}
-use Rattle.lc_walk.specs.Key.{key_cmp}
-use Rattle.lc_walk.specs.TallyRows.{TallyRowModel}
+use Rattle.lc_walk.specs.{Key.key_cmp, TallyRows.TallyRowModel}
 use Rattle.lc_walk.proofs.Keys.{key_cmp_total}
 use Rattle.lc_walk.proofs.tally.keyed_rows.sort.Goals as goal
 

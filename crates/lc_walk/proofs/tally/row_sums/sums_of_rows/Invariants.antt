@@ -1,6 +1,5 @@
 use Rattle.std.proofs.Common.{◌≡◌, length}
-use Rattle.lc_walk.specs.Sums.{plus}
-use Rattle.lc_walk.specs.TallyRows.{sums_of_rows}
+use Rattle.lc_walk.specs.{Sums.plus, TallyRows.sums_of_rows}
 use Rattle.lc_walk.proofs.tally.row_sums.sums_of_rows.Given as goal
 
 -- the sums so far, and those over the other rows, are those over all rows

@@ -1,5 +1,4 @@
-use Rattle.std.proofs.Common.{◌∷◌, [], ◌++◌, sym, ap, ◌∙◌, append_assoc}
-use Rattle.std.proofs.lemmas.List.{nil_from_length}
+use Rattle.std.proofs.{Common.{◌∷◌, [], ◌++◌, sym, ap, ◌∙◌, append_assoc}, lemmas.List.nil_from_length}
 use Rattle.lc_level.proofs.PassedOn.{passed_on}
 use Rattle.lc_walk.specs.Posting.{PostsChildren}
 use Rattle.lc_walk.proofs.Posted.{posted_none, posted_more, posted_all, refused_first}

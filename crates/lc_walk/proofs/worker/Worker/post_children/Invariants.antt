@@ -1,8 +1,6 @@
 use Rattle.std.proofs.Common.{◌≡◌, ◌++◌}
 use Rattle.lc_board.specs.Holding.{posts_held}
-use Rattle.lc_walk.specs.BoardPasses.{HoldsClaim, IsPassOf}
-use Rattle.lc_walk.specs.Lawful.{jobs_of, named}
-use Rattle.lc_walk.specs.Posting.{HasPosted}
+use Rattle.lc_walk.specs.{BoardPasses.{HoldsClaim, IsPassOf}, Lawful.{jobs_of, named}, Posting.HasPosted}
 use Rattle.lc_walk.proofs.worker.Worker.post_children.Given as goal
 
 abbrev pub invariant-loop-child : goal.invariant-loop-child

@@ -1,9 +1,8 @@
 use Rattle.std.proofs.Common.{refl}
 use Rattle.lc_walk.specs.WalkOptions.{asked_by}
 use Rattle.lc_level.specs.TreeAnswers.{MayAnswer}
-use Rattle.lc_walk.proofs.Working.{works_first, works_claim}
+use Rattle.lc_walk.proofs.{Working.{works_first, works_claim}, worker.Worker.run.Goals.{in-Over, in-Memory}}
 use Rattle.lc_walk.proofs.worker.Worker.run.Goals as goal
-use Rattle.lc_walk.proofs.worker.Worker.run.Goals.{in-Over, in-Memory}
 
 pub loop-init : goal.loop-init
 loop-init g c = (tt, tt, c.requires, works_first _ _ _ c.new-2.result c.new-2.ensures)

@@ -1,7 +1,5 @@
 use Rattle.lc_level.specs.TreeAnswers.{MayAnswer}
-use Rattle.lc_walk.specs.BoardPasses.{IsFree, IsPassOf}
-use Rattle.lc_walk.specs.WorkerResults.{HasWorked}
-use Rattle.lc_walk.specs.WalkOptions.{asked_by}
+use Rattle.lc_walk.specs.{BoardPasses.{IsFree, IsPassOf}, WorkerResults.HasWorked, WalkOptions.asked_by}
 use Rattle.lc_walk.proofs.worker.Worker.run.Given as goal
 
 abbrev pub invariant-loop : goal.invariant-loop

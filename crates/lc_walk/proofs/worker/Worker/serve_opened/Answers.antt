@@ -1,10 +1,6 @@
 use Rattle.std.proofs.Common.{map, ◌≡◌, Ok, ap, ◌∙◌}
-use Rattle.lc_level.specs.CountedNames.{IsCounted}
-use Rattle.lc_level.specs.Classified.{bytes_of}
-use Rattle.lc_walk.specs.Serving.{AddsFiles}
-use Rattle.lc_walk.specs.RowViews.{ListedRowModel}
-use Rattle.lc_walk.specs.FoundReports.{tallied}
-use Rattle.lc_walk.specs.WalkOptions.{asked_by}
+use Rattle.lc_level.specs.{CountedNames.IsCounted, Classified.bytes_of}
+use Rattle.lc_walk.specs.{Serving.AddsFiles, RowViews.ListedRowModel, FoundReports.tallied, WalkOptions.asked_by}
 use Rattle.lc_walk.proofs.RowEnds.{serves_refused, serves_uncounted, serves_listed}
 use Rattle.lc_walk.proofs.worker.Worker.serve_opened.Goals as goal
 

@@ -3,10 +3,9 @@ use Rattle.std.specs.Result.{is_err}
 use Rattle.lc_level.specs.TreeAnswers.{MayAnswer}
 use Rattle.lc_level.proofs.SomeAnswers.{some_answers}
 use Rattle.lc_walk.specs.WalkOptions.{asked_by}
-use Rattle.lc_walk.proofs.RowEnds.{serves_unasked}
-use Rattle.lc_walk.proofs.Working.{refused_serves}
+use Rattle.lc_walk.proofs.{RowEnds.serves_unasked, Working.refused_serves, worker.Worker.serve_or_break_off.Goals.in-Some+in-Some-tally}
+use Rattle.lc_walk.proofs.worker.Worker.serve_or_break_off.Goals.{in_default}
 use Rattle.lc_walk.proofs.worker.Worker.serve_or_break_off.Goals as goal
-use Rattle.lc_walk.proofs.worker.Worker.serve_or_break_off.Goals.{in-Some+in-Some-tally, in_default}
 
 pub returns-then-is_err-clause-goes_on : goal.returns-then-is_err-clause-goes_on
 returns-then-is_err-clause-goes_on g c =

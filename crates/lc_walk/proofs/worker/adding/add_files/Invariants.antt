@@ -1,6 +1,5 @@
 use Rattle.std.proofs.Common.{◌++◌, List, map, take}
-use Rattle.lc_walk.specs.Tally.{CountedFile, StandsFor}
-use Rattle.lc_walk.specs.FoundReports.{tallied}
+use Rattle.lc_walk.specs.{Tally.{CountedFile, StandsFor}, FoundReports.tallied}
 use Rattle.lc_walk.proofs.worker.adding.add_files.Given as goal
 
 abbrev pub invariant-loop-file : goal.invariant-loop-file

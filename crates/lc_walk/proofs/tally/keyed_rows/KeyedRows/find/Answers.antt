@@ -1,7 +1,5 @@
-use Rattle.std.proofs.Common.{rules, ap, ◌∙◌, take}
-use Rattle.std.proofs.lemmas.Fn.{always_returns_same}
-use Rattle.lc_walk.specs.Key.{key_cmp}
-use Rattle.lc_walk.specs.TallyRows.{TallyRowModel}
+use Rattle.std.proofs.{Common.{rules, ap, ◌∙◌, take}, lemmas.Fn.always_returns_same}
+use Rattle.lc_walk.specs.{Key.key_cmp, TallyRows.TallyRowModel}
 use Rattle.lc_walk.proofs.Growing.{found_in_front}
 use Rattle.lc_walk.proofs.tally.keyed_rows.KeyedRows.find.Goals as goal
 

@@ -1,8 +1,6 @@
-use Rattle.std.proofs.Common.{◌≡◌, true, false, rules, tests}
+use Rattle.std.proofs.{Common.{◌≡◌, true, false, rules, tests}, lemmas.Iterator.{YieldsList-from_slice, IsFirst-from_position}}
 use Rattle.std.specs.Ordering.{is_eq}
-use Rattle.std.proofs.lemmas.Iterator.{YieldsList-from_slice, IsFirst-from_position}
-use Rattle.lc_walk.specs.Key.{key_cmp}
-use Rattle.lc_walk.specs.TallyRows.{TallyRowModel}
+use Rattle.lc_walk.specs.{Key.key_cmp, TallyRows.TallyRowModel}
 use Rattle.lc_walk.proofs.Growing.{known_found}
 use Rattle.lc_walk.proofs.tally.keyed_rows.KeyedRows.position.Goals as goal
 
