@@ -1,5 +1,4 @@
-use Rattle.std.proofs.Common.{◌<◌, length, Some, sym, ap, ◌∙◌, arith}
-use Rattle.std.proofs.lemmas.Option.{slice_get-get_or}
+use Rattle.std.proofs.{Common.{◌<◌, length, Some, sym, ap, ◌∙◌, arith}, lemmas.Option.slice_get-get_or}
 use Rattle.lc_walk_tests.proofs.walk.rows.start_one.Goals as goal
 
 pub returns-clause-pass : goal.returns-clause-pass

@@ -1,11 +1,7 @@
-use Rattle.std.proofs.Common.{ℕ, ◌≤◌, false, List}
-use Rattle.std.proofs.lemmas.Result.{IfOk-weaker, IfErr-weaker}
-use Rattle.lc_board.specs.ClosedBoard.{Promises, Settled, RefusesClose}
-use Rattle.lc_board.specs.Pass.{Pass}
-use Rattle.lc_board.specs.declared.answers.CloseFault.{CloseFault}
-use Rattle.lc_board.specs.declared.answers.CloseFault.TheVariants as close
-use Rattle.lc_board.specs.declared.answers.Ended.{Ended}
+use Rattle.std.proofs.{Common.{ℕ, ◌≤◌, false, List}, lemmas.Result.{IfOk-weaker, IfErr-weaker}}
+use Rattle.lc_board.specs.{ClosedBoard.{Promises, Settled, RefusesClose}, Pass.Pass, declared.answers.{CloseFault.CloseFault, Ended.Ended}}
 use Rattle.lc_board.proofs.RowsOfWorkers.{stays_legal}
+use Rattle.lc_board.specs.declared.answers.CloseFault.TheVariants as close
 use Rattle.lc_walk_tests.proofs.walk.no_posts.NoPostsSharedJobRow.close.Goals as goal
 
 abbrev not_filling : Promises → Promises
