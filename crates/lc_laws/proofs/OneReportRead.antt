@@ -4,8 +4,8 @@ use Rattle.std.specs.List.{flat_map}
 use Rattle.json.specs.{Json.{Json, Members, document, object}, Lex.{after_value, between, fresh, lex, punctuate, tokens}, Token.Token}
 use Rattle.json.specs.{Token.begin_object, Tree.{json_tokens, members_tokens}}
 use Rattle.lc_reading.specs.{Members.members_with, Texts.{AreReportTexts, AreReportsOf, IsReportText}}
-use Rattle.lc_reading.specs.declared.read_report.ReadReport.{ReadReport}
 use Rattle.lc_laws.proofs.TokensApart.{nothing_lexed, object_first, one_object_first}
+use Rattle.lc_walk.specs.declared.report.Report.{Report}
 
 -- no token is in a line feed
 no_more : punctuate after_value (lex between (codes "\n")) ≡ []
@@ -30,13 +30,13 @@ no_object text more ms is none =
     sym (object_first text more ms is) ∙ ap (punctuate fresh) none in cc
 
 -- the one report, which is in the line
-pub record OneReport (line : List ℕ) (reports : List ReadReport) : Type 0 where
-  pub read : ReadReport
+pub record OneReport (line : List ℕ) (reports : List Report) : Type 0 where
+  pub read : Report
   pub one : reports ≡ read ∷ []
   pub is : IsReportText line read
 
 module _ (line blank : List ℕ) (ns : Members) (line_is : document line ≡ Some (object ns)) where
-  one_of : (texts : List (List ℕ)) (reports : List ReadReport) → line ++ codes "\n" ≡ flat_map (λ t. t) texts ++ blank
+  one_of : (texts : List (List ℕ)) (reports : List Report) → line ++ codes "\n" ≡ flat_map (λ t. t) texts ++ blank
       → AreReportTexts texts reports → 0 < length reports → OneReport line reports
   one_of [] [] whole each some = absurd (omega arith)
   one_of [] (q ∷ qs) whole each some = absurd each
@@ -60,7 +60,7 @@ module _ (line blank : List ℕ) (ns : Members) (line_is : document line ≡ Som
       ap (lex between) (sym (append_assoc u (flat_map (λ t. t) us) blank)) ∙ both.1 in
       absurd (no_object u (flat_map (λ t. t) us ++ blank) (members_with next.members) next.value_is left)
 
-pub one_report : (line text : List ℕ) (ns : Members) (reports : List ReadReport) → document line ≡ Some (object ns)
+pub one_report : (line text : List ℕ) (ns : Members) (reports : List Report) → document line ≡ Some (object ns)
     → text ≡ line ++ codes "\n" → AreReportsOf text reports → OneReport line reports
 one_report line text ns reports line_is text_is are =
     one_of line are.blank ns line_is are.texts reports (sym text_is ∙ are.whole) are.each are.some

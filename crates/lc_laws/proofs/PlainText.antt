@@ -7,9 +7,8 @@ use Rattle.lc_census.specs.EolWords.{eol_word}
 use Rattle.lc_formats.specs.Tsv.{field_of, header_line, line_with, list_lines, number_line, tsv_of, values_line}
 use Rattle.lc_level.specs.{FaultLines.FaultLineModel, FaultWords.fault_word, Level.FileLineModel}
 use Rattle.lc_rows.specs.{Kept.whole_form, Kinds.{extension_value, fault_value, file_value, row_value, skipped_value, sums_value}}
-use Rattle.lc_rows.specs.{Kinds.word_value, Laws.all_columns, SheetColumns.{fault_columns, listed_columns, listed_skipped, row_columns}}
-use Rattle.lc_rows.specs.{Sheets.{list_of, listed_files, section_of, sheet_among, totals_lines}, ShownRows.part_of_row, Views.view_of}
-use Rattle.lc_rows.specs.declared.classes.ClassSums.{ClassSums}
+use Rattle.lc_rows.specs.{Kinds.word_value, SheetColumns.{fault_columns, listed_columns, listed_skipped, row_columns}}
+use Rattle.lc_rows.specs.{Sheets.{list_of, listed_files, section_of, sheet_of, totals_lines}, ShownRows.part_of_row, Views.view_of}
 use Rattle.lc_rules.specs.TextWords.{text_word}
 use Rattle.lc_sheet.specs.{Sheets.{line_of, lines_of}, declared.column.Column.Column}
 use Rattle.lc_text.specs.Escape.{escape_bytes, escape_path}
@@ -18,6 +17,7 @@ use Rattle.lc_walk.specs.{Found.Found, FoundReports.{IsReportOf, skipped_lines_o
 use Rattle.lc_walk.specs.declared.{options.ReportLists.ReportLists, report.Report.Report, tally.sums.Sums.Sums}
 use Rattle.lc_laws.specs.{PlainTable.{file_line, line, numbers, or_dash, row_line}, PlainTableLaw.{ListsNoSkipped, PlainTableLaw}}
 use Rattle.lc_laws.specs.PlainTableLaw.{UnlistedLaw, plain_options}
+use Rattle.lc_walk.specs.{AllColumns.all_columns, declared.tally.classes.ClassSums.ClassSums}
 
 -- ---- lines
 
@@ -98,12 +98,12 @@ in_a_row : (h : List ℕ) {rows rows' total total' ds ds' entries fs fs' skipped
 in_a_row h e1 e2 e3 e4 e5 e6 e7 = rw (e1, e2, e3, e4, e5, e6, e7) (simp append-nil)
 
 pub plain_table_law : PlainTableLaw
-plain_table_law b r classes s unlisted sheet =
+plain_table_law b r s unlisted sheet =
     ap tsv_of sheet.has.is
-    ∙ ap (λ fs. tsv_of (sheet_among (plain_options b) r classes (view_of None sheet.has.rows (listed_files b fs)))) sheet.are_files
+    ∙ ap (λ fs. tsv_of (sheet_of (plain_options b) r (view_of None sheet.has.rows (listed_files b fs)))) sheet.are_files
     ∙ in_a_row (header_line columns)
     (ap (λ rs. flat_map (values_line None) (lines_of (row_value whole_form) columns rs)) (sheet.has.are_rows.2 ∙ sheet.has.are_rows.1)
-    ∙ rows_printed r.rows.items) (total_printed r.totals classes) (tabbed (codes "directories" ∷ decimal r.directories ∷ []))
+    ∙ rows_printed r.rows.items) (total_printed r.totals r.classes) (tabbed (codes "directories" ∷ decimal r.directories ∷ []))
     (entries_unprinted r.entries r.lists.left_out unlisted.unlisted) (files_printed b r.files.items)
     (skipped_unprinted r r.lists.left_out unlisted.unlisted)
     (faults_printed r.faults.items)

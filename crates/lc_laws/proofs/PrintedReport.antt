@@ -5,7 +5,7 @@ use Rattle.lc_formats.specs.{JsonLines.{line_members, line_object}, JsonSheets.j
 use Rattle.lc_level.specs.{FaultLines.FaultLineModel, Level.{FileLineModel, SkippedLineModel}}
 use Rattle.lc_rows.specs.{Kinds.{fault_value, file_value, row_value, skipped_value, sums_value}, RowKeys.ShownRowModel}
 use Rattle.lc_rows.specs.{SheetColumns.{fault_columns, number_columns, recorded_columns, recorded_skipped, row_columns}, Sheets.form_of}
-use Rattle.lc_rows.specs.{Sheets.{listed_files, sheet_among}, Views.view_of, declared.classes.ClassSums.ClassSums}
+use Rattle.lc_rows.specs.{Sheets.{listed_files, sheet_of}, Views.view_of}
 use Rattle.lc_sheet.specs.{Sheets.{line_of, lines_of}, declared.{form.Form.Form, table_options.{Format.Format, TableOptions.TableOptions}}}
 use Rattle.lc_walk.specs.declared.{report.Report.Report, tally.sums.Sums.Sums}
 use Rattle.lc_laws.specs.ReadBack.{IsWholeJson}
@@ -51,7 +51,7 @@ report_members p false n ls = members_around p [] []
 report_members p true n ls =
     members_around p ((codes "entries", integer n) ∷ []) ((codes "left", array_with (skipped_objects p.form ls)) ∷ [])
 
-module _ (options : TableOptions) (r : Report) (classes : ClassSums) (rows : List ShownRowModel) (files : List FileLineModel) where
+module _ (options : TableOptions) (r : Report) (rows : List ShownRowModel) (files : List FileLineModel) where
   abbrev pub printed_form : Form
   printed_form = form_of options r.totals rows
 
@@ -60,43 +60,34 @@ module _ (options : TableOptions) (r : Report) (classes : ClassSums) (rows : Lis
     form = printed_form;
     rows = array_with (map (line_object (row_columns options)) (lines_of (row_value printed_form) (row_columns options) rows));
     totals = r.totals;
-    text = classes.text;
-    binary = classes.binary;
+    text = r.classes.text;
+    binary = r.classes.binary;
     directories = r.directories;
     files = files;
     faults = r.faults.items;
   }
 
 -- the sheet that shows all files and rows as JSON
-module _ (options : TableOptions) (r : Report) (classes : ClassSums) (rows : List ShownRowModel) (files : List FileLineModel) where
+module _ (options : TableOptions) (r : Report) (rows : List ShownRowModel) (files : List FileLineModel) where
   abbrev with_options : Format → Option ℕ → Bool → TableOptions
   with_options f top listed =
       record { format = f; by = options.by; sort = options.sort; top = top; files = listed; share = options.share }
 
   abbrev with_lists : Bool → Report
-  with_lists b = record {
-    rows = r.rows;
-    totals = r.totals;
-    directories = r.directories;
-    entries = r.entries;
-    lists = record { files = r.lists.files; left_out = b };
-    files = r.files;
-    faults = r.faults;
-    skipped = r.skipped;
-  }
+  with_lists b = record r { lists = record { files = r.lists.files; left_out = b } }
 
   abbrev IsPrinted : Format → Option ℕ → Bool → Bool → Type 0
   IsPrinted f top listed b =
-      json_of (sheet_among (with_options f top listed) (with_lists b) classes (view_of top rows (listed_files listed files)))
-      ≡ object_with (report_members (printed_parts (with_options f top listed) r classes rows files) b r.entries r.skipped.items)
+      json_of (sheet_of (with_options f top listed) (with_lists b) (view_of top rows (listed_files listed files)))
+      ≡ object_with (report_members (printed_parts (with_options f top listed) r rows files) b r.entries r.skipped.items)
 
   whole_printed : (b : Bool) → IsPrinted format.Json None true b
   whole_printed true = refl
   whole_printed false = refl
 
   pub sheet_printed : IsWholeJson options
-      → json_of (sheet_among options r classes (view_of options.top rows (listed_files options.files files)))
-      ≡ object_with (report_members (printed_parts options r classes rows files) r.lists.left_out r.entries r.skipped.items)
+      → json_of (sheet_of options r (view_of options.top rows (listed_files options.files files)))
+      ≡ object_with (report_members (printed_parts options r rows files) r.lists.left_out r.entries r.skipped.items)
   sheet_printed whole =
       subst (λ f. IsPrinted f options.top options.files r.lists.left_out) (sym whole.json)
       (subst (λ top. IsPrinted format.Json top options.files r.lists.left_out) (sym whole.uncut)

@@ -7,7 +7,6 @@ use Rattle.lc_formats.specs.{JsonText.{Member, array_with, object_with}, Readabl
 use Rattle.lc_level.specs.{FaultLines.FaultLineModel, Level.{FileLineModel, SkippedLineModel}}
 use Rattle.lc_reading.specs.{Lines.{IsFaultOf, IsFileOf, IsSkippedOf}, Members.{members_with as read_members, named}, Reports.HasOrdered}
 use Rattle.lc_reading.specs.{Reports.IsReportOf, Rows.{HasSums, IsSumsOf}, Texts.IsReportText, declared.member_name.MemberName.MemberName}
-use Rattle.lc_reading.specs.declared.read_report.ReadReport.{ReadReport}
 use Rattle.lc_rows.specs.{Kinds.{fault_value, file_value, skipped_value}, SheetColumns.{fault_columns, recorded_columns, recorded_skipped}}
 use Rattle.lc_sheet.specs.declared.form.Form.{Form}
 use Rattle.lc_walk.proofs.RowSums.{same_sums}
@@ -17,9 +16,10 @@ use Rattle.lc_laws.proofs.{ListsReadBack.{lines_read, list_says}, PrintedReport.
 use Rattle.lc_laws.proofs.{PrintedReport.sums_members, SkippedReadBack.skipped_read_back}
 use Rattle.lc_laws.specs.ReadBack.{FitsFile, FitsSkipped, skipped_text}
 use Rattle.lc_reading.specs.declared.member_name.MemberName.TheVariants as member
+use Rattle.lc_walk.specs.declared.report.Report.{Report}
 
 -- what a text reads as has the members that were printed
-pub printed_members : (text : List ℕ) (ms : List Member) (read : ReadReport) → document text ≡ Some (object_with ms)
+pub printed_members : (text : List ℕ) (ms : List Member) (read : Report) → document text ≡ Some (object_with ms)
     → IsReportText text read → IsReportOf ms read
 printed_members text ms read printed is =
     let same : Some (object_with ms) ≡ Some (object (read_members is.members)) =

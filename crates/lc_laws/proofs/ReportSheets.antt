@@ -19,16 +19,17 @@ use Rattle.lc_sheet.specs.declared.form.{Form.Form, Shares.Shares}
 use Rattle.lc_sheet.specs.declared.table_options.{Format.{TheVariants.Table, Format}, TableOptions.TableOptions}
 use Rattle.lc_walk.specs.declared.{report.Report.Report, tally.sums.Sums.Sums}
 use Rattle.lc_rows.specs.Kinds.{NamedSumsModel, directory_value, extension_value, fault_value, file_value, kept_value, named_in}
-use Rattle.lc_rows.specs.{Kinds.{place_value, row_value, share_value, bar_value, skipped_value, sums_value, text_value}, Classes.classes_of}
+use Rattle.lc_rows.specs.Kinds.{place_value, row_value, share_value, bar_value, skipped_value, sums_value, text_value}
 use Rattle.lc_rows.specs.{RowKeys.ShownRowModel, SheetColumns.{column_if, fault_columns, key_columns, listed_columns, listed_skipped}}
 use Rattle.lc_rows.specs.{SheetColumns.number_columns, Sheets.{form_of, list_of, others_lines, section_of, sheet_of, totals_lines}}
-use Rattle.lc_rows.specs.{declared.classes.ClassSums.ClassSums, Views.ViewModel, Words.skipped_end}
+use Rattle.lc_rows.specs.{Views.ViewModel, Words.skipped_end}
 use Rattle.lc_formats.specs.{Layouts.has_no_end, Readable.{AreBytes, AreReadable, AreRows, EndsInNumbers, IsListed, IsNumeral, IsPlain}}
 use Rattle.lc_formats.specs.Readable.{IsReadable}
 use Rattle.lc_laws.specs.SheetReadable.{HasByteName, HasByteNames, HasSkippedBytes, IsReadableSheet, ReadableSheetLaw}
 use Rattle.lc_census.specs.declared.line_count.Eol.TheVariants as eol
 use Rattle.lc_rules.specs.declared.states.TextState.TheVariants as state
 use Rattle.lc_sheet.specs.declared.column.Column.TheVariants as column
+use Rattle.lc_walk.specs.declared.tally.classes.ClassSums.{ClassSums}
 
 -- ---- words
 
@@ -301,12 +302,12 @@ in_table : (options : TableOptions) (r : Report) (v : ViewModel) → All HasByte
     → IsReadableSheet (sheet_of (record options { format = Table }) r v)
 in_table options r v small skipped =
     let form = form_of (record options { format = Table }) r.totals v.rows in
-    let classes = classes_of r.rows.items in record {
+    record {
       tabular = record {
         closed = closed_columns options;
         rows = row_section options form v.rows small;
         others = sums_section options form (others_lines v.others) (others_plain v.others);
-        totals = sums_section options form (totals_lines r.totals classes) (totals_plain r.totals classes);
+        totals = sums_section options form (totals_lines r.totals r.classes) (totals_plain r.totals r.classes);
       };
       files_listed = files_listed options.files form v.files;
       skipped_listed = skipped_listed r.lists.left_out form r.skipped.items skipped;

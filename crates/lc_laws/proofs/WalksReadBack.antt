@@ -5,9 +5,8 @@ use Rattle.std.specs.List.{All}
 use Rattle.json.specs.Json.{Json, document}
 use Rattle.lc_formats.specs.{JsonSheets.json_of, JsonText.{Member, members_with, object_with}}
 use Rattle.lc_level.specs.Level.{FileLineModel}
-use Rattle.lc_reading.specs.declared.read_report.ReadReport.{ReadReport}
 use Rattle.lc_rows.proofs.WalkedSheets.{walked_adds_up}
-use Rattle.lc_rows.specs.{Classes.classes_of, Kept.{IsKept, file_meets}, ShownFiles.AreFilesSorted}
+use Rattle.lc_rows.specs.{Kept.{IsKept, file_meets}, ShownFiles.AreFilesSorted}
 use Rattle.lc_sheet.specs.{Conditions.ConditionModel, declared.column.Number.Number}
 use Rattle.lc_tree.specs.{ByteOrder.{AreInOrder, bytes_cmp}, Trees.{Listings, Contents}}
 use Rattle.lc_walk.proofs.ReportTotals.{walked_lists}
@@ -49,15 +48,15 @@ read_back_law lists gives o options r s text reports w listed json sheet (line, 
     (ap (λ (l : ReportLists). l.files) (walked_lists lists gives o w.whole w.walked) ∙ listed) w.walked.files_once w.walked.faults_once
     w.walked.skipped_once in
     let members : List Member =
-    report_members (printed_parts options r (classes_of r.rows.items) sheet.has.rows sheet.files) r.lists.left_out r.entries
+    report_members (printed_parts options r sheet.has.rows sheet.files) r.lists.left_out r.entries
     r.skipped.items in
     let value : json_of s ≡ object_with members =
-    ap json_of sheet.has.is ∙ sheet_printed options r (classes_of r.rows.items) sheet.has.rows sheet.files json in
+    ap json_of sheet.has.is ∙ sheet_printed options r sheet.has.rows sheet.files json in
     let line_members : document line ≡ Some (object_with members) = line_is ∙ ap (λ (j : Json). Some j) value in
     let one : OneReport line reports = one_report line text (members_with members) reports line_members text_is are in
-    let read_fit : FitsTypes one.read.report =
-    All-head (λ (q : ReadReport). FitsTypes q.report) one.read []
-    (subst (All (λ (q : ReadReport). FitsTypes q.report)) one.one read_fits) in record {
+    let read_fit : FitsTypes one.read =
+    All-head (λ (q : Report). FitsTypes q) one.read []
+    (subst (All (λ (q : Report). FitsTypes q)) one.one read_fits) in record {
       read = one.read;
       one = one.one;
       is = report_read_back options r sheet.has.rows sheet.files one.read whole

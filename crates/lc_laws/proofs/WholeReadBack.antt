@@ -6,9 +6,8 @@ use Rattle.json.specs.Json.{Json}
 use Rattle.lc_formats.specs.JsonText.{Member, array_with, integer, object_with}
 use Rattle.lc_level.specs.{FaultLines.FaultLineModel, Level.{FileLineModel, SkippedLineModel}}
 use Rattle.lc_reading.specs.{Lines.{IsFileOf, IsSkippedOf}, Members.{HasNumber, Lacks, named}, Reports.{HasOrdered, HasRows, IsReportOf}}
-use Rattle.lc_reading.specs.{Reports.row_in, declared.read_report.ReadReport.ReadReport}
-use Rattle.lc_rows.proofs.ClassLaw.{classes_law}
-use Rattle.lc_rows.specs.{Classes.{binary_sums, classes_of, text_sums}, RowKeys.ShownRowModel}
+use Rattle.lc_reading.specs.Reports.{row_in}
+use Rattle.lc_rows.specs.RowKeys.{ShownRowModel}
 use Rattle.lc_sheet.specs.declared.table_options.TableOptions.{TableOptions}
 use Rattle.lc_tree.specs.ByteOrder.{AreInOrder}
 use Rattle.lc_walk.specs.{ReportLines.{fault_paths, file_paths, skipped_paths}, ReportTotals.{TotalsAddUp, counted_line}, Sums.IsInRange}
@@ -19,6 +18,8 @@ use Rattle.lc_laws.proofs.PrintedReport.{fault_objects, file_objects, printed_pa
 use Rattle.lc_laws.proofs.ReportReadBack.{faults_read_back, files_read_back, skipped_texts_read_back, sums_read_back}
 use Rattle.lc_laws.specs.ReadBack.{FitsFile, FitsTypes, HasNoSkipped, HasSkippedOf, IsReadBack, skipped_text}
 use Rattle.lc_reading.specs.declared.member_name.MemberName.TheVariants as member
+use Rattle.lc_walk.proofs.Classes.{same_classes}
+use Rattle.lc_walk.specs.AllColumns.{all_columns}
 
 -- ---- the members that were printed
 
@@ -49,27 +50,27 @@ files_listed A true ms j files total printed (inr (lacks, none, zero)) = absurd 
 files_listed A false ms j files total printed (lacks, none, some) = absurd (let empty : j ∷ [] ≡ [] = sym printed ∙ lacks in cc)
 
 -- skipped entries and their number, where they were printed
-abbrev SkippedIn : Bool → List Member → ReadReport → Type 0
+abbrev SkippedIn : Bool → List Member → Report → Type 0
 SkippedIn b ms read =
-    MatchBool b (HasNumber member.Entries ms read.report.entries) (Lacks member.Entries ms × (read.report.entries ≡ 0))
-    × MatchBool b (HasOrdered IsSkippedOf (λ l. l.path) member.Left ms read.report.skipped.items)
-    (Lacks member.Left ms × (read.report.skipped.items ≡ []))
+    MatchBool b (HasNumber member.Entries ms read.entries) (Lacks member.Entries ms × (read.entries ≡ 0))
+    × MatchBool b (HasOrdered IsSkippedOf (λ l. l.path) member.Left ms read.skipped.items)
+    (Lacks member.Left ms × (read.skipped.items ≡ []))
 
-record SkippedListed (ms : List Member) (read : ReadReport) (b : Bool) : Type 0 where
+record SkippedListed (ms : List Member) (read : Report) (b : Bool) : Type 0 where
   listed : b ≡ true
-  entries : HasNumber member.Entries ms read.report.entries
-  skipped : HasOrdered IsSkippedOf (λ l. l.path) member.Left ms read.report.skipped.items
+  entries : HasNumber member.Entries ms read.entries
+  skipped : HasOrdered IsSkippedOf (λ l. l.path) member.Left ms read.skipped.items
 
-skipped_listed : (b : Bool) (ms : List Member) (j : Json) (read : ReadReport) → named member.Left ms ≡ j ∷ [] → SkippedIn b ms read
+skipped_listed : (b : Bool) (ms : List Member) (j : Json) (read : Report) → named member.Left ms ≡ j ∷ [] → SkippedIn b ms read
     → SkippedListed ms read b
 skipped_listed true ms j read printed is = record { listed = refl; entries = is.0; skipped = is.1 }
 skipped_listed false ms j read printed is = absurd (let none : j ∷ [] ≡ [] = sym printed ∙ is.1.0 in cc)
 
-record SkippedUnlisted (read : ReadReport) (b : Bool) : Type 0 where
+record SkippedUnlisted (read : Report) (b : Bool) : Type 0 where
   unlisted : b ≡ false
-  none : HasNoSkipped read.report
+  none : HasNoSkipped read
 
-skipped_unlisted : (b : Bool) (ms : List Member) (read : ReadReport) → named member.Left ms ≡ [] → SkippedIn b ms read
+skipped_unlisted : (b : Bool) (ms : List Member) (read : Report) → named member.Left ms ≡ [] → SkippedIn b ms read
     → SkippedUnlisted read b
 skipped_unlisted true ms read printed is = absurd (let none : [] ≡ is.1.has.value ∷ [] = sym printed ∙ is.1.has.has in cc)
 skipped_unlisted false ms read printed is =
@@ -96,39 +97,39 @@ fits_right t a b e fits =
 -- ---- skipped entries
 
 -- what the law says of skipped entries and lists
-record SkippedReadBack (r : Report) (read : ReadReport) : Type 0 where
-  lists : read.report.lists.left_out ≡ r.lists.left_out
-  skipped : MatchBool r.lists.left_out (HasSkippedOf r read.report) (HasNoSkipped read.report)
+record SkippedReadBack (r : Report) (read : Report) : Type 0 where
+  lists : read.lists.left_out ≡ r.lists.left_out
+  skipped : MatchBool r.lists.left_out (HasSkippedOf r read) (HasNoSkipped read)
 
 same_lists : (a b : ReportLists) → a.files ≡ b.files → a.left_out ≡ b.left_out → a ≡ b
 same_lists a b files left_out = λ i. record { files = files i; left_out = left_out i }
 
-module _ (r : Report) (read : ReadReport) (fits : FitsTypes r) (read_fits : FitsTypes read.report)
+module _ (r : Report) (read : Report) (fits : FitsTypes r) (read_fits : FitsTypes read)
     (order : AreInOrder (skipped_paths r.skipped.items)) (p : Parts) where
   skipped_back : (b : Bool) → r.lists.left_out ≡ b → IsReportOf (report_members p b r.entries r.skipped.items) read → SkippedReadBack r read
   skipped_back true listed is =
       let ms : List Member = report_members p true r.entries r.skipped.items in
-      let has : SkippedListed ms read read.report.lists.left_out =
-      skipped_listed read.report.lists.left_out ms (array_with (skipped_objects p.form r.skipped.items)) read refl
+      let has : SkippedListed ms read read.lists.left_out =
+      skipped_listed read.lists.left_out ms (array_with (skipped_objects p.form r.skipped.items)) read refl
       (is.entries, is.skipped) in
       let texts : map skipped_text has.skipped.listed ≡ map skipped_text r.skipped.items =
-      skipped_texts_read_back ms p.form r.skipped.items read.report.skipped.items refl fits.skipped read_fits.skipped has.skipped in
-      let entries : read.report.entries ≡ r.entries =
-      same_integer r.entries read.report.entries (let e : r.entries < 2 ^ 64 = fits.entries in omega arith)
-      (let e : read.report.entries < 2 ^ 64 = read_fits.entries in omega arith) has.entries in record {
+      skipped_texts_read_back ms p.form r.skipped.items read.skipped.items refl fits.skipped read_fits.skipped has.skipped in
+      let entries : read.entries ≡ r.entries =
+      same_integer r.entries read.entries (let e : r.entries < 2 ^ 64 = fits.entries in omega arith)
+      (let e : read.entries < 2 ^ 64 = read_fits.entries in omega arith) has.entries in record {
         lists = has.listed ∙ sym listed;
-        skipped = subst (λ b. MatchBool b (HasSkippedOf r read.report) (HasNoSkipped read.report)) (sym listed) (record {
+        skipped = subst (λ b. MatchBool b (HasSkippedOf r read) (HasNoSkipped read)) (sym listed) (record {
           entries = entries;
           skipped = risen_texts skipped_text (λ (l : SkippedLineModel). l.path) (λ t. t.path) (λ l. refl) r.skipped.items
-              has.skipped.listed read.report.skipped.items order texts has.skipped.same has.skipped.order;
+              has.skipped.listed read.skipped.items order texts has.skipped.same has.skipped.order;
         });
       }
   skipped_back false listed is =
       let ms : List Member = report_members p false r.entries r.skipped.items in
-      let has : SkippedUnlisted read read.report.lists.left_out =
-      skipped_unlisted read.report.lists.left_out ms read refl (is.entries, is.skipped) in record {
+      let has : SkippedUnlisted read read.lists.left_out =
+      skipped_unlisted read.lists.left_out ms read refl (is.entries, is.skipped) in record {
         lists = has.unlisted ∙ sym listed;
-        skipped = subst (λ b. MatchBool b (HasSkippedOf r read.report) (HasNoSkipped read.report)) (sym listed) has.none;
+        skipped = subst (λ b. MatchBool b (HasSkippedOf r read) (HasNoSkipped read)) (sym listed) has.none;
       }
 
 -- ---- the whole report
@@ -142,13 +143,13 @@ pub record IsWholeReport (r : Report) : Type 0 where
   pub skipped : AreInOrder (skipped_paths r.skipped.items)
 
 -- what is said of rows where no files are listed
-abbrev KeepsRows : {ms : List Member} → (read : ReadReport) → HasRows ms read → Type 0
-KeepsRows read rows = (read.columns ≡ rows.columns) × AddsUp (map row_in rows.rows) read.report.rows.items
+abbrev KeepsRows : {ms : List Member} → (read : Report) → HasRows ms read → Type 0
+KeepsRows read rows = (read.columns ≡ rows.columns) × AddsUp (map row_in rows.rows) read.rows.items
 
-module _ (options : TableOptions) (r : Report) (rows : List ShownRowModel) (files : List FileLineModel) (read : ReadReport)
-    (whole : IsWholeReport r) (moved : IsPermutation r.files.items files) (fits : FitsTypes r) (read_fits : FitsTypes read.report) where
+module _ (options : TableOptions) (r : Report) (rows : List ShownRowModel) (files : List FileLineModel) (read : Report)
+    (whole : IsWholeReport r) (moved : IsPermutation r.files.items files) (fits : FitsTypes r) (read_fits : FitsTypes read) where
   abbrev parts : Parts
-  parts = printed_parts options r (classes_of r.rows.items) rows files
+  parts = printed_parts options r rows files
 
   abbrev members : List Member
   members = report_members parts r.lists.left_out r.entries r.skipped.items
@@ -156,42 +157,41 @@ module _ (options : TableOptions) (r : Report) (rows : List ShownRowModel) (file
   pub report_read_back : IsReportOf members read → IsReadBack r read
   report_read_back is =
       let printed : Printed members parts = printed_at parts r.lists.left_out r.entries r.skipped.items in
-      let both : r.totals ≡ plus (text_sums r.rows.items) (binary_sums r.rows.items) =
-      whole.adds_up.rows ∙ sym (classes_law r.rows.items) in
-      let listed : (read.report.lists.files ≡ true) × HasOrdered IsFileOf (λ f. f.path) member.Files members read.report.files.items =
-      files_listed (HasOrdered IsFileOf (λ f. f.path) member.Files members read.report.files.items) read.report.lists.files members
-      (array_with (file_objects parts.form (is_some parts.form.by.dir) files)) read.report.files.items
-      read.report.totals.files printed.files is.files in
+      let listed : (read.lists.files ≡ true) × HasOrdered IsFileOf (λ f. f.path) member.Files members read.files.items =
+      files_listed (HasOrdered IsFileOf (λ f. f.path) member.Files members read.files.items) read.lists.files members
+      (array_with (file_objects parts.form (is_some parts.form.by.dir) files)) read.files.items
+      read.totals.files printed.files is.files in
       let all_files : All FitsFile files = All-permutation FitsFile r.files.items files moved fits.files in
-      let files_same : read.report.files.items ≡ r.files.items =
-      same_sorted (λ (f : FileLineModel). f.path) r.files.items read.report.files.items whole.files
-      (IsPermutation-trans r.files.items files read.report.files.items moved
-      (files_read_back members parts.form (is_some parts.form.by.dir) files read.report.files.items printed.files all_files read_fits.files
+      let files_same : read.files.items ≡ r.files.items =
+      same_sorted (λ (f : FileLineModel). f.path) r.files.items read.files.items whole.files
+      (IsPermutation-trans r.files.items files read.files.items moved
+      (files_read_back members parts.form (is_some parts.form.by.dir) files read.files.items printed.files all_files read_fits.files
       listed.1))
       listed.1.order in
       let skipped : SkippedReadBack r read = skipped_back r read fits read_fits whole.skipped parts r.lists.left_out refl is in
       let directories : r.directories < 2 ^ 64 = fits.directories in
-      let read_directories : read.report.directories < 2 ^ 64 = read_fits.directories in record {
-        totals = sums_read_back parts.form (codes "total") r.totals read.report.totals member.Total members printed.total fits.totals
+      let read_directories : read.directories < 2 ^ 64 = read_fits.directories in record {
+        totals = sums_read_back parts.form (codes "total") r.totals read.totals member.Total members printed.total fits.totals
             read_fits.totals is.total;
-        text = sums_read_back parts.form (codes "text") (text_sums r.rows.items) read.text member.Text members printed.text
-            (fits_left r.totals (text_sums r.rows.items) (binary_sums r.rows.items) both fits.totals)
-            (fits_left read.report.totals read.text read.binary is.parts read_fits.totals) is.text;
-        binary = sums_read_back parts.form (codes "binary") (binary_sums r.rows.items) read.binary member.Binary members printed.binary
-            (fits_right r.totals (text_sums r.rows.items) (binary_sums r.rows.items) both fits.totals)
-            (fits_right read.report.totals read.text read.binary is.parts read_fits.totals) is.binary;
-        directories = same_integer r.directories read.report.directories (omega arith) (omega arith)
+        classes = same_classes read.classes r.classes
+            (sums_read_back parts.form (codes "text") r.classes.text read.classes.text member.Text members printed.text
+            (fits_left r.totals r.classes.text r.classes.binary whole.adds_up.classes fits.totals)
+            (fits_left read.totals read.classes.text read.classes.binary is.adds_up.classes read_fits.totals) is.text)
+            (sums_read_back parts.form (codes "binary") r.classes.binary read.classes.binary member.Binary members printed.binary
+            (fits_right r.totals r.classes.text r.classes.binary whole.adds_up.classes fits.totals)
+            (fits_right read.totals read.classes.text read.classes.binary is.adds_up.classes read_fits.totals) is.binary);
+        directories = same_integer r.directories read.directories (omega arith) (omega arith)
             (sym printed.directories ∙ is.directories);
-        lists = same_lists read.report.lists r.lists (listed.0 ∙ sym whole.lists_files) skipped.lists;
-        faults = same_sorted (λ (f : FaultLineModel). f.path) r.faults.items read.report.faults.items whole.faults
-            (faults_read_back members parts.form r.faults.items read.report.faults.items printed.faults fits.faults read_fits.faults
+        lists = same_lists read.lists r.lists (listed.0 ∙ sym whole.lists_files) skipped.lists;
+        faults = same_sorted (λ (f : FaultLineModel). f.path) r.faults.items read.faults.items whole.faults
+            (faults_read_back members parts.form r.faults.items read.faults.items printed.faults fits.faults read_fits.faults
             is.faults)
             is.faults.order;
         files = files_same;
-        rows = one_tally (map counted_line r.files.items) read.report.rows.items r.rows.items
-            (subst (λ fs. IsTally (map counted_line fs) read.report.rows.items) files_same (is.adds_up.tally listed.0))
+        rows = one_tally (map counted_line r.files.items) read.rows.items r.rows.items
+            (subst (λ fs. IsTally (map counted_line fs) read.rows.items) files_same (is.adds_up.tally listed.0))
             (whole.adds_up.tally whole.lists_files);
-        columns = subst (λ b. MatchBool b (read.columns ≡ record { ext = true; text = true; eol = true }) (KeepsRows read is.rows))
+        columns = subst (λ b. MatchBool b (read.columns ≡ all_columns) (KeepsRows read is.rows))
             listed.0 is.rows.kept;
         skipped = skipped.skipped;
       }

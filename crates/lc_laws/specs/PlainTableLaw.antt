@@ -1,11 +1,12 @@
 -- The law that a plain table is written from its report alone.
 use Rattle.std.specs.Prelude.{◌≡◌, ℕ, Bool, false, List, [], None, Ok}
 use Rattle.lc_formats.specs.Tsv.{tsv_of}
-use Rattle.lc_rows.specs.{Laws.all_columns, Sheets.IsSheetWith, declared.classes.ClassSums.ClassSums}
+use Rattle.lc_rows.specs.Sheets.{IsSheetOf}
 use Rattle.lc_sheet.specs.{Sheets.SheetModel, declared.table_options.{Format.TheVariants.Tsv, TableOptions.TableOptions}}
 use Rattle.lc_tree.specs.Trees.{Listings, Contents}
 use Rattle.lc_walk.specs.{Walks.Walks, declared.{options.Options.Options, report.Report.Report}}
 use Rattle.lc_laws.specs.PlainTable.{plain_table}
+use Rattle.lc_walk.specs.AllColumns.{all_columns}
 
 -- the options of the table of a count without options, or with `--files`, that is not printed on a terminal
 abbrev pub plain_options : Bool → TableOptions
@@ -19,7 +20,7 @@ pub record ListsNoSkipped (r : Report) : Type 0 where
 -- the text of each sheet of a report with these options is the plain table of the report
 abbrev pub PlainTableLaw : Type 0
 PlainTableLaw =
-    (files : Bool) (r : Report) (classes : ClassSums) (s : SheetModel) → ListsNoSkipped r → IsSheetWith (plain_options files) r classes s
+    (files : Bool) (r : Report) (s : SheetModel) → ListsNoSkipped r → IsSheetOf (plain_options files) r s
     → tsv_of s ≡ plain_table files r
 
 -- the report of each walk whose options do not request the list of skipped entries does not list them

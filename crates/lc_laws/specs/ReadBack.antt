@@ -5,13 +5,14 @@ use Rattle.lc_census.specs.declared.line_count.Count.{Count}
 use Rattle.lc_formats.specs.{JsonSheets.json_of, JsonText.IsDocument, Readable.AreBytes}
 use Rattle.lc_level.specs.{FaultLines.FaultLineModel, Level.{FileLineModel, SkippedLineModel}, ReasonWords.{attribute_of, reason_word}}
 use Rattle.lc_level.specs.ReasonWords.{rule_of}
-use Rattle.lc_reading.specs.{Texts.AreReportsOf, declared.read_report.ReadReport.ReadReport}
-use Rattle.lc_rows.specs.{Classes.{binary_sums, text_sums}, Sheets.IsSheetOf, WalkedReports.IsOfWalk, Words.kind_word}
+use Rattle.lc_reading.specs.Texts.{AreReportsOf}
+use Rattle.lc_rows.specs.{Sheets.IsSheetOf, WalkedReports.IsOfWalk, Words.kind_word}
 use Rattle.lc_rules.specs.declared.rule_source.RuleSource.{RuleSource}
 use Rattle.lc_sheet.specs.{Sheets.SheetModel, declared.table_options.{Format.TheVariants.Json, TableOptions.TableOptions}}
 use Rattle.lc_text.specs.RulePlaces.{source_directory, source_name}
 use Rattle.lc_tree.specs.Trees.{Listings, Contents}
 use Rattle.lc_walk.specs.{Sums.IsInRange, declared.{options.Options.Options, report.Report.Report}}
+use Rattle.lc_walk.specs.AllColumns.{all_columns}
 
 -- ---- numbers and bytes that fit their types
 
@@ -82,17 +83,16 @@ pub record HasNoSkipped (read : Report) : Type 0 where
 
 -- a report that was read has what this report has: its sums, also over text and over binary files, the number of its directories, its
 -- files and its errors in their order, its rows with all columns, and the skipped entries if it lists them
-pub record IsReadBack (r : Report) (read : ReadReport) : Type 0 where
-  pub totals : read.report.totals ≡ r.totals
-  pub text : read.text ≡ text_sums r.rows.items
-  pub binary : read.binary ≡ binary_sums r.rows.items
-  pub directories : read.report.directories ≡ r.directories
-  pub lists : read.report.lists ≡ r.lists
-  pub faults : read.report.faults.items ≡ r.faults.items
-  pub files : read.report.files.items ≡ r.files.items
-  pub rows : read.report.rows.items ≡ r.rows.items
-  pub columns : read.columns ≡ record { ext = true; text = true; eol = true }
-  pub skipped : MatchBool r.lists.left_out (HasSkippedOf r read.report) (HasNoSkipped read.report)
+pub record IsReadBack (r : Report) (read : Report) : Type 0 where
+  pub totals : read.totals ≡ r.totals
+  pub classes : read.classes ≡ r.classes
+  pub directories : read.directories ≡ r.directories
+  pub lists : read.lists ≡ r.lists
+  pub faults : read.faults.items ≡ r.faults.items
+  pub files : read.files.items ≡ r.files.items
+  pub rows : read.rows.items ≡ r.rows.items
+  pub columns : read.columns ≡ all_columns
+  pub skipped : MatchBool r.lists.left_out (HasSkippedOf r read) (HasNoSkipped read)
 
 -- a table as JSON that lists all files and all rows
 pub record IsWholeJson (options : TableOptions) : Type 0 where
@@ -101,8 +101,8 @@ pub record IsWholeJson (options : TableOptions) : Type 0 where
   pub uncut : options.top ≡ None
 
 -- the one report that was read is this report
-pub record IsReadFrom (r : Report) (reports : List ReadReport) : Type 0 where
-  pub read : ReadReport
+pub record IsReadFrom (r : Report) (reports : List Report) : Type 0 where
+  pub read : Report
   pub one : reports ≡ read ∷ []
   pub is : IsReadBack r read
 
@@ -110,6 +110,6 @@ pub record IsReadFrom (r : Report) (reports : List ReadReport) : Type 0 where
 -- and a line feed, as `text` writes it. If these reports are in the text, as `read_reports` reads it, they are this one report
 abbrev pub ReadBackLaw : (List ℕ → Listings) → (List ℕ → Contents) → Type 0
 ReadBackLaw lists gives =
-    (o : Options) (options : TableOptions) (r : Report) (s : SheetModel) (text : List ℕ) (reports : List ReadReport)
+    (o : Options) (options : TableOptions) (r : Report) (s : SheetModel) (text : List ℕ) (reports : List Report)
     → IsOfWalk lists gives o r → o.lists.files ≡ true → IsWholeJson options → IsSheetOf options r s → IsDocument (json_of s) text
-    → FitsTypes r → All (λ (q : ReadReport). FitsTypes q.report) reports → AreReportsOf text reports → IsReadFrom r reports
+    → FitsTypes r → All (λ (q : Report). FitsTypes q) reports → AreReportsOf text reports → IsReadFrom r reports

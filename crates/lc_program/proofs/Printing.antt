@@ -1,13 +1,22 @@
--- Counts whose table is not written, or not whole.
+-- Counts and sums whose table is written, not written, or not whole.
 use Rattle.std.proofs.Common.{◌≡◌, ℕ, List, Result, Ok, Err, inl, inr, refl, subst, subst₂, sym}
 use Rattle.std.specs.Result.{IsErrAnd}
-use Rattle.lc_arguments.specs.{declared.count.CountRequest.CountRequest, TableWords.options_in}
+use Rattle.lc_arguments.specs.{declared.{count.CountRequest.CountRequest, sum.SumRequest.SumRequest}, TableWords.options_in}
 use Rattle.lc_io.specs.declared.{printing.PrintFault.PrintFault, source.Failed.Failed}
 use Rattle.lc_program.specs.{Causes.print_cause, Counts.{MayWalk, Prints, counted_in, names_of}, Finds.{Finds, FindsNone}}
-use Rattle.lc_program.specs.{Runs.AnswersTable, Systems.SystemMay, declared.cause.Cause.Cause}
-use Rattle.lc_rows.specs.Laws.{all_columns}
+use Rattle.lc_program.specs.{Runs.AnswersTable, Sums.{PrintsSum, summed_in}, Systems.SystemMay, declared.cause.Cause.Cause}
 use Rattle.lc_sheet.specs.{Conditions.ConditionModel, declared.table_options.{TableOptions.TableOptions, Format.Format}}
 use Rattle.lc_walk.specs.declared.{options.Options.Options, report.Report.Report}
+use Rattle.lc_walk.specs.AllColumns.{all_columns}
+
+-- what was printed, by what is equal to it
+same_table : {O : Type 0} (may_take : O → List ℕ → Result ℕ Failed → O → Type 0) (r left : Report) (out wrote : O)
+    (answer : Result (Unit {0}) PrintFault) (counted named : List ℕ) (conditions kept : List ConditionModel) (options table : TableOptions)
+    → counted ≡ named → conditions ≡ kept → options ≡ table → AnswersTable may_take counted conditions options r left out answer wrote
+    → AnswersTable may_take named kept table r left out answer wrote
+same_table may_take r left out wrote answer counted named conditions kept options table named_is kept_is table_is printed =
+    subst (λ n. AnswersTable may_take n kept table r left out answer wrote) named_is
+    (subst₂ (λ cs os. AnswersTable may_take counted cs os r left out answer wrote) kept_is table_is printed)
 
 module _ (may : SystemMay) {O : Type 0} (may_take : O → List ℕ → Result ℕ Failed → O → Type 0) (other : Format) (c : CountRequest)
     (o : Options) where
@@ -32,9 +41,7 @@ module _ (may : SystemMay) {O : Type 0} (may_take : O → List ℕ → Result �
         fault,
         finds,
         is,
-        subst (λ n. AnswersTable may_take n c.conditions.items (options_in other all_columns c.table) r left out
-            (Err fault) wrote) named
-            (subst₂ (λ cs os. AnswersTable may_take counted cs os r left out (Err fault) wrote) same alike stopped),
+        same_table may_take r left out wrote (Err fault) counted _ conditions _ options _ named same alike stopped,
       )
 
   -- it was written whole
@@ -45,6 +52,15 @@ module _ (may : SystemMay) {O : Type 0} (may_take : O → List ℕ → Result �
   prints_whole r left out wrote counted conditions options finds named same alike written = (
     r,
     finds,
-    subst (λ n. AnswersTable may_take n c.conditions.items (options_in other all_columns c.table) r left out (Ok tt) wrote) named
-        (subst₂ (λ cs os. AnswersTable may_take counted cs os r left out (Ok tt) wrote) same alike written),
+    same_table may_take r left out wrote (Ok tt) counted _ conditions _ options _ named same alike written,
   )
+
+module _ {O : Type 0} (may_take : O → List ℕ → Result ℕ Failed → O → Type 0) (other : Format) (c : SumRequest) (s : Report) where
+  -- the table of a sum was not written, or not whole
+  pub sum_stopped : (answer : Result Report Cause) (left : Report) (fault : PrintFault) (out wrote : O)
+      (counted : List ℕ) (conditions : List ConditionModel) (options : TableOptions) → IsErrAnd answer (λ cause. cause ≡ print_cause fault)
+      → counted ≡ summed_in c → conditions ≡ c.conditions.items → options ≡ options_in other s.columns c.table
+      → AnswersTable may_take counted conditions options s left out (Err fault) wrote → PrintsSum may_take other c s out answer wrote
+  sum_stopped (Ok given) left fault out wrote counted conditions options is named same alike stopped = absurd is
+  sum_stopped (Err cause) left fault out wrote counted conditions options is named same alike stopped =
+      (left, fault, is, same_table may_take s left out wrote (Err fault) counted _ conditions _ options _ named same alike stopped)

@@ -7,10 +7,10 @@ use Rattle.lc_level.specs.NamedAttributes.{attributes_of}
 use Rattle.lc_program.specs.{Finds.{Finds, FindsNone}, Nested.{AreApart, AreNested}, Runs.AnswersTable, Causes.print_cause}
 use Rattle.lc_program.specs.{Replies.{IsRunReply, Reply}, Filters.{Excludes, LacksRules, filters_of}, Systems.SystemMay}
 use Rattle.lc_program.specs.{WalkRequests.{AnswersPathsOf, IsAskedBy, entered_by}, declared.cause.Cause.{Cause, TheVariants.Memory}}
-use Rattle.lc_rows.specs.Laws.{all_columns}
 use Rattle.lc_sheet.specs.{Conditions.needs_files, declared.table_options.Format.Format}
 use Rattle.lc_walk.specs.{Walks.Walks, declared.{options.{Options.Options, ReportLists.ReportLists}, report.Report.Report}}
 use Rattle.lc_walk.specs.declared.walk_fault.WalkFault.{WalkFault}
+use Rattle.lc_walk.specs.AllColumns.{all_columns}
 
 -- the names of the directories that a count has as arguments
 abbrev pub names_of : CountRequest → List (List ℕ)

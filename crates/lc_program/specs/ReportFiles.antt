@@ -5,7 +5,8 @@ use Rattle.json.specs.Word.{is_space}
 use Rattle.lc_io.specs.{Reads.Answer, declared.whole.WholeFault.WholeFault}
 use Rattle.lc_program.specs.{NamedTexts.ReadsNamed, ReportLines.{IsRefusedFor, IsUnreadFor, origin_of}}
 use Rattle.lc_program.specs.declared.{cause.Cause.{Cause, TheVariants.Memory}, unread_reason.UnreadReason.UnreadReason}
-use Rattle.lc_reading.specs.{Texts.AreReportsOf, declared.{read_fault.ReadFault.ReadFault, read_report.ReadReport.ReadReport}}
+use Rattle.lc_reading.specs.{Texts.AreReportsOf, declared.read_fault.ReadFault.ReadFault}
+use Rattle.lc_walk.specs.declared.report.Report.{Report}
 use Rattle.lc_reports.specs.Named.{IsNamed}
 use Rattle.lc_sums.specs.declared.part.Part.{Part}
 use Rattle.lc_tree.specs.Trees.{Contents}
@@ -21,13 +22,12 @@ abbrev pub Typed : Type 0
 Typed = Option (List ℕ) × List ℕ
 
 -- a report with this name in front of its paths, or the report itself without a name
-abbrev pub IsBelow : Option (List ℕ) → ReadReport → ReadReport → Type 0
+abbrev pub IsBelow : Option (List ℕ) → Report → Report → Type 0
 IsBelow None given below = below ≡ given
-IsBelow (Some name) given below =
-    IsNamed name given.report below.report × (below.columns ≡ given.columns) × (below.text ≡ given.text) × (below.binary ≡ given.binary)
+IsBelow (Some name) given below = IsNamed name given below
 
 -- a part of a sum is made from a report in a REPORT: it has NAME in front of its paths, and the name of the REPORT in errors
-pub record IsPartOf (typed : Typed) (given : ReadReport) (part : Part) : Type 0 where
+pub record IsPartOf (typed : Typed) (given : Report) (part : Part) : Type 0 where
   pub origin : part.origin.now ≡ origin_of typed.1
   pub below : IsBelow typed.0 given part.report
 
@@ -40,7 +40,7 @@ module _ {I : Type 0} (may_give : I → ℕ → Answer → I → Type 0) (holds 
   abbrev pub ReadsParts : Typed → I → List Part → I → Type 0
   ReadsParts typed input parts read =
       (text : Vec ℕ Global) × ReadsNamed max_report may_give holds typed.1 input (Ok text) read
-      × ((given : List ReadReport) × AreReportsOf text.items given × AllZip (IsPartOf typed) given parts)
+      × ((given : List Report) × AreReportsOf text.items given × AllZip (IsPartOf typed) given parts)
 
   -- all REPORTs were read in their order, and these are their parts, one after another
   abbrev pub ReadsAll : List Typed → I → List Part → I → Type 0

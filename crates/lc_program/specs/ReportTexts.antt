@@ -2,29 +2,25 @@
 use Rattle.std.specs.{Prelude.{◌≡◌, ℕ, List, [], ◌∷◌}, List.Sorted.IsPermutation}
 use Rattle.lc_formats.specs.Texts.{IsTextIn}
 use Rattle.lc_picture.specs.Page.{IsPageOf, drawn_number}
-use Rattle.lc_rows.specs.{Classes.classes_of, Kept.IsKept, Sheets.IsSheetWith, declared.classes.ClassSums.ClassSums}
+use Rattle.lc_rows.specs.{Kept.IsKept, Sheets.IsSheetOf}
 use Rattle.lc_sheet.specs.{Conditions.ConditionModel, Sheets.SheetModel, declared.table_options.Format.{Format, TheVariants.Html}}
 use Rattle.lc_sheet.specs.declared.table_options.TableOptions.{TableOptions}
 use Rattle.lc_walk.specs.declared.report.Report.{Report}
 
--- a text is that of a report's sheet with these options, and with these sums over text and binary files
-pub record HasSheetWith (options : TableOptions) (r : Report) (classes : ClassSums) (text : List ℕ) : Type 0 where
+-- a text is that of a report's sheet with these options
+pub record HasSheet (options : TableOptions) (r : Report) (text : List ℕ) : Type 0 where
   pub sheet : SheetModel
-  pub is_sheet : IsSheetWith options r classes sheet
+  pub is_sheet : IsSheetOf options r sheet
   pub is : IsTextIn options.format sheet text
 
--- a text is that of a report of what was counted (`counted`) in this format, with these options, and these sums over text and binary files
-abbrev pub IsTextBy : Format → List ℕ → TableOptions → Report → ClassSums → List ℕ → Type 0
-IsTextBy Html counted options r classes text = IsPageOf counted (drawn_number options.sort) r text
-IsTextBy other counted options r classes text = HasSheetWith options r classes text
+-- a text is that of a report of what was counted (`counted`) in this format, with these options
+abbrev pub IsTextBy : Format → List ℕ → TableOptions → Report → List ℕ → Type 0
+IsTextBy Html counted options r text = IsPageOf counted (drawn_number options.sort) r text
+IsTextBy other counted options r text = HasSheet options r text
 
--- a text is that of a report of what was counted (`counted`), with these options, and these sums over text and binary files
-abbrev pub IsTextWith : List ℕ → TableOptions → Report → ClassSums → List ℕ → Type 0
-IsTextWith counted options r classes text = IsTextBy options.format counted options r classes text
-
--- a text is that of a report, whose sums over text and binary files are those of its rows
+-- a text is that of a report of what was counted (`counted`), with these options
 abbrev pub IsTextOf : List ℕ → TableOptions → Report → List ℕ → Type 0
-IsTextOf counted options r text = IsTextWith counted options r (classes_of r.rows.items) text
+IsTextOf counted options r text = IsTextBy options.format counted options r text
 
 -- the second report is the first with its files in another order; all else is the same
 pub record IsReordered (r left : Report) : Type 0 where
@@ -37,18 +33,4 @@ pub record IsPrinted (counted : List ℕ) (conditions : List ConditionModel) (op
   pub part : Report
   pub is_kept : IsKept conditions r part
   pub is_text : IsTextOf counted options part text
-  pub is_left : IsReordered part left
-
--- the sums over text and binary files of what meets some conditions: without conditions those of all, and else those of the rows of that
--- part
-abbrev pub classes_kept : List ConditionModel → ClassSums → Report → ClassSums
-classes_kept [] classes part = classes
-classes_kept (c ∷ cs) classes part = classes_of part.rows.items
-
--- like `IsPrinted`, for a report with these sums over text and binary files, whose rows may not keep them apart
-pub record IsPrintedWith (counted : List ℕ) (conditions : List ConditionModel) (options : TableOptions) (r : Report) (classes : ClassSums)
-    (text : List ℕ) (left : Report) : Type 0 where
-  pub part : Report
-  pub is_kept : IsKept conditions r part
-  pub is_text : IsTextWith counted options part (classes_kept conditions classes part) text
   pub is_left : IsReordered part left

@@ -8,7 +8,7 @@ use Rattle.lc_program.specs.{ReportLines.{IsTold, IsUnsummedFor}, Systems.System
 use Rattle.lc_program.specs.declared.cause.Cause.{Cause, TheVariants.Memory}
 use Rattle.lc_program.specs.declared.unread_reason.UnreadReason.{UnreadReason}
 use Rattle.lc_program.specs.declared.unread_reason.UnreadReason.TheVariants.{Missing, Denied, IsDirectory, IsFile, NotDirectory, Other}
-use Rattle.lc_sums.specs.{Sums.IsSummed, declared.{needs.Needs.Needs, part.Part.Part, sum.Sum.Sum, sum_fault.SumFault.SumFault}}
+use Rattle.lc_sums.specs.{Sums.IsSummed, declared.{needs.Needs.Needs, part.Part.Part, sum_fault.SumFault.SumFault}}
 use Rattle.lc_walk.specs.{Walks.Walks, declared.{options.Options.Options, report.Report.Report, walk_fault.WalkFault.WalkFault}}
 
 -- ---- which sides are directories
@@ -54,7 +54,7 @@ module _ (may : SystemMay) {I : Type 0} (may_give : I → ℕ → Answer → I �
   abbrev pub ReadsSide : List ℕ → I → Result Report Cause → I → Type 0
   ReadsSide name input (Ok r) read =
       (parts : Vec Part Global) × ReadsParts may_give may.hold (None, name) input parts.items read
-      × ((s : Sum) × IsSummed needs parts.items (Ok s) × (r ≡ s.report))
+      × IsSummed needs parts.items (Ok r)
   ReadsSide name input (Err cause) read =
       (Refuses may_give may.hold may.unread (None, name) input cause read ⊎ (cause ≡ Memory))
       ⊎ ((parts : Vec Part Global) × ReadsParts may_give may.hold (None, name) input parts.items read

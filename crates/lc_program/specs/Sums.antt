@@ -1,14 +1,12 @@
 -- How a sum is answered, by what was read and written.
-use Rattle.std.specs.{Prelude.{◌≡◌, ◌⊎◌, ◌||◌, ℕ, List, ◌++◌, map, nat_lt, codes, Some, None, Result, Ok, Err, Vec}, Global.Global}
+use Rattle.std.specs.{Prelude.{◌≡◌, ◌⊎◌, ◌||◌, ℕ, List, ◌++◌, map, codes, Some, None, Result, Ok, Err, Vec}, Global.Global}
 use Rattle.lc_arguments.specs.{Combinations.is_picture, Reports.report_model, TableWords.options_in, declared.sum.SumRequest.SumRequest}
 use Rattle.lc_io.specs.{Reads.Answer, declared.{printing.PrintFault.PrintFault, source.Failed.Failed}}
 use Rattle.lc_program.specs.{Causes.print_cause, Counts.one_text, Replies.Reply, ReportFiles.{AnswersParts, Typed}}
-use Rattle.lc_program.specs.{ReportLines.IsUnsummedFor, ReportTexts.IsPrintedWith, Runs.AnswersText, Systems.SystemMay}
+use Rattle.lc_program.specs.{ReportLines.IsUnsummedFor, Runs.AnswersTable, Systems.SystemMay}
 use Rattle.lc_program.specs.declared.{answered.Answered.TheVariants.Summed, cause.Cause.Cause}
-use Rattle.lc_reading.specs.declared.row_columns.RowColumns.{RowColumns}
-use Rattle.lc_rows.specs.declared.classes.ClassSums.{ClassSums}
-use Rattle.lc_sheet.specs.declared.table_options.{Columns.Columns, Format.Format}
-use Rattle.lc_sums.specs.{Needs.needs_of, Sums.IsSummed, declared.{needs.Needs.Needs, part.Part.Part, sum.Sum.Sum}}
+use Rattle.lc_sheet.specs.declared.table_options.Format.{Format}
+use Rattle.lc_sums.specs.{Needs.needs_of, Sums.IsSummed, declared.{needs.Needs.Needs, part.Part.Part}}
 use Rattle.lc_sums.specs.declared.sum_fault.SumFault.{SumFault}
 use Rattle.lc_walk.specs.declared.report.Report.{Report}
 
@@ -29,25 +27,15 @@ summed_in c = one_text (map typed_text (reports_of c))
 abbrev pub needed_by : SumRequest → Needs
 needed_by c = needs_of c.table.by c.conditions.items (c.table.files || is_picture c.table.format) c.left_out
 
--- the columns of a table with these columns of reports' rows, and none for directories
-abbrev pub columns_of : RowColumns → Columns
-columns_of columns = record { dir = None; ext = columns.ext; text = columns.text; eol = columns.eol }
-
--- the sums over the text files and over the binary files of a sum of reports
-abbrev pub classes_in : Sum → ClassSums
-classes_in s = record { text = s.text; binary = s.binary; some_binary = nat_lt 0 s.binary.files }
-
 module _ {O : Type 0} (may_take : O → List ℕ → Result ℕ Failed → O → Type 0) (other : Format) (c : SumRequest) where
   -- what a call answers that writes the table of what meets the conditions of a sum. The format is `other` if the command line names none,
   -- and the columns are those that each report has if it names no columns
-  abbrev pub AnswersTableOf : Sum → Report → O → Result (Unit {0}) PrintFault → O → Type 0
+  abbrev pub AnswersTableOf : Report → Report → O → Result (Unit {0}) PrintFault → O → Type 0
   AnswersTableOf s left out answer wrote =
-      AnswersText may_take
-      (λ text. IsPrintedWith (summed_in c) c.conditions.items (options_in other (columns_of s.columns) c.table) s.report (classes_in s) text
-      left) out answer wrote
+      AnswersTable may_take (summed_in c) c.conditions.items (options_in other s.columns c.table) s left out answer wrote
 
   -- the table of a sum was written whole, and `left` is the part of the sum that meets the conditions; or it was not written, or not whole
-  abbrev pub PrintsSum : Sum → O → Result Report Cause → O → Type 0
+  abbrev pub PrintsSum : Report → O → Result Report Cause → O → Type 0
   PrintsSum s out (Ok left) wrote = AnswersTableOf s left out (Ok tt) wrote
   PrintsSum s out (Err cause) wrote =
       (left : Report) × (fault : PrintFault) × (cause ≡ print_cause fault) × AnswersTableOf s left out (Err fault) wrote
@@ -55,7 +43,7 @@ module _ {O : Type 0} (may_take : O → List ℕ → Result ℕ Failed → O →
   -- the reports of these parts were added up, and their sum was printed; or they have no sum, and nothing was written
   abbrev pub PrintsParts : List Part → O → Result Report Cause → O → Type 0
   PrintsParts parts out answer wrote =
-      ((s : Sum) × IsSummed (needed_by c) parts (Ok s) × PrintsSum s out answer wrote)
+      ((s : Report) × IsSummed (needed_by c) parts (Ok s) × PrintsSum s out answer wrote)
       ⊎ ((fault : SumFault) × (cause : Cause) × IsSummed (needed_by c) parts (Err fault) × IsUnsummedFor fault cause × (answer ≡ Err cause)
       × (wrote ≡ out))
 

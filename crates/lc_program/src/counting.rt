@@ -7,7 +7,7 @@ ghost use Rattle.lc_arguments.specs.TableWords.{options_in};
 ghost use Rattle.lc_program.specs.Counts.{AnswersApart, AnswersCount, Prints, after_spaces, lists_of, one_text};
 ghost use Rattle.lc_program.specs.Systems.{may_of};
 ghost use Rattle.lc_program.specs.WalkRequests.{IsAskedBy};
-ghost use Rattle.lc_rows.specs.Laws.{all_columns};
+ghost use Rattle.lc_walk.specs.AllColumns.{all_columns};
 ghost use Rattle.lc_rows.specs.WalkedReports.{ListsFilesFor};
 ghost use Rattle.lc_walk.specs.WalkOptions.{AreWithinLimits};
 

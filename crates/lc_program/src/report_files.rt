@@ -12,42 +12,27 @@ use crate::report_lines::{cause_of_refusal, cause_of_text, origin_of};
 use crate::system::System;
 use lc_arguments::NamedReport;
 use lc_census::Source;
-use lc_reading::{ReadReport, read_reports};
+use lc_reading::read_reports;
 use lc_reports::named;
 use lc_sums::Part;
+use lc_walk::Report;
 use std::alloc::{AllocError, Global};
 
 /// The greatest number of bytes of a file of reports, or of the input.
 const MAX_REPORT: u32 = 1_073_741_824;
 
 /// Puts a name in front of a report's paths, as `NAME=REPORT` does. Without a name the report stays as it is.
-fn below(alloc: Global, name: Option<&str>, given: ReadReport) -> Result<ReadReport, AllocError>
+fn below(alloc: Global, name: Option<&str>, given: Report) -> Result<Report, AllocError>
     ensures { IfOk result (IsBelow (option_map (λ n. n.now) name.entry) given) }
 {
-    let Some(name) = name else {
-        return Ok(given);
-    };
-    let ReadReport {
-        report,
-        columns,
-        text,
-        binary,
-    } = given;
-    let report = named(alloc, name.as_bytes(), report)?;
-    Ok(ReadReport {
-        report,
-        columns,
-        text,
-        binary,
-    })
+    match name {
+        Some(name) => named(alloc, name.as_bytes(), given),
+        None => Ok(given),
+    }
 }
 
 /// Makes a part of a sum from one of the reports in a text that the command line names.
-fn part_of<'w>(
-    alloc: Global,
-    typed: NamedReport<'w>,
-    given: ReadReport,
-) -> Result<Part<'w>, AllocError>
+fn part_of<'w>(alloc: Global, typed: NamedReport<'w>, given: Report) -> Result<Part<'w>, AllocError>
     ensures { IfOk result (IsPartOf (report_model typed.entry) given) }
 {
     let report = below(alloc, typed.name, given)?;
@@ -61,7 +46,7 @@ fn part_of<'w>(
 fn parts_of<'w>(
     alloc: Global,
     typed: NamedReport<'w>,
-    given: Vec<ReadReport>,
+    given: Vec<Report>,
 ) -> Result<Vec<Part<'w>>, AllocError>
     ensures { IfOk result (λ parts. AllZip (IsPartOf (report_model typed.entry)) given.items parts.items) }
 {

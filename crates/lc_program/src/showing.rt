@@ -1,55 +1,33 @@
 //! Making and writing the text of a report.
 
 ghost use Rattle.std.specs.Prelude.{IfOk};
-ghost use Rattle.lc_program.specs.ReportTexts.{HasSheetWith, IsPrinted, IsReordered, IsTextOf, IsTextWith};
+ghost use Rattle.lc_program.specs.ReportTexts.{HasSheet, IsPrinted, IsReordered, IsTextOf};
 ghost use Rattle.lc_program.specs.Runs.{AnswersTable};
 ghost use Rattle.lc_rows.specs.WalkedReports.{HasFilesFor};
 
 use lc_formats::text;
 use lc_picture::page;
-use lc_rows::{ClassSums, Shown, keep, sort_files};
+use lc_rows::{Shown, keep, sort_files};
 use lc_sheet::{Format, ReportOptions, TableOptions};
 use lc_text::{PrintFault, Sink, print};
 use lc_walk::Report;
 use std::alloc::{AllocError, Global};
 
-/// Makes the text of the sheet of a report. `classes` has the sums over text files and over binary files.
+/// Makes the text of the sheet of a report.
 fn sheet_text(
     alloc: Global,
     report: &mut Report,
-    classes: ClassSums,
     options: TableOptions,
 ) -> Result<Vec<u8>, AllocError>
     requires files { HasFilesFor options report.now.lists }
-    ensures text { IfOk result (λ text. HasSheetWith options report.old classes text.items) }
+    ensures text { IfOk result (λ text. HasSheet options report.old text.items) }
     ensures left { IsReordered report.old report.new }
 {
     sort_files(options.sort, &mut report.files);
-    let shown = Shown::with_classes(alloc, report, classes, &options)?;
+    let shown = Shown::of(alloc, report, &options)?;
     let sheet = shown.sheet();
     let text = text(alloc, options.format, &sheet)?;
     Ok(text)
-}
-
-/// Like [`report_text`], but takes the sums over text files and over binary files from `classes`, for a report whose rows may not keep
-/// these apart.
-pub(crate) fn text_with(
-    alloc: Global,
-    counted: &[u8],
-    report: &mut Report,
-    classes: ClassSums,
-    options: TableOptions,
-) -> Result<Vec<u8>, AllocError>
-    requires files { HasFilesFor options report.now.lists }
-    ensures text { IfOk result (λ text. IsTextWith counted.now options report.old classes text.items) }
-    ensures left { IsReordered report.old report.new }
-{
-    match options.format {
-        Format::Html => page(alloc, counted, report, options.sort),
-        Format::Tsv | Format::Table | Format::Json | Format::Csv | Format::Markdown => {
-            sheet_text(alloc, report, classes, options)
-        }
-    }
 }
 
 /// Makes the text of a report. In the format `Html` the text is a page with a picture. The heading of this page is `counted`, which says
@@ -68,8 +46,12 @@ pub fn report_text(
     ensures text { IfOk result (λ text. IsTextOf counted.now options report.old text.items) }
     ensures left { IsReordered report.old report.new }
 {
-    let classes = ClassSums::of_all(&report.rows)?;
-    text_with(alloc, counted, report, classes, options)
+    match options.format {
+        Format::Html => page(alloc, counted, report, options.sort),
+        Format::Tsv | Format::Table | Format::Json | Format::Csv | Format::Markdown => {
+            sheet_text(alloc, report, options)
+        }
+    }
 }
 
 /// Drops from a report the files that do not meet the conditions, and makes the text of the remaining report ([`report_text`]).

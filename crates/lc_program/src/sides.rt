@@ -101,7 +101,7 @@ fn read_side<Y: System, S: Source>(
 {
     let parts = read_one(alloc, system, name, input)?;
     match summed(alloc, parts, needs) {
-        Ok(sum) => Ok(sum.report),
+        Ok(sum) => Ok(sum),
         Err(fault) => Err(cause_of_sum(alloc, fault)),
     }
 }

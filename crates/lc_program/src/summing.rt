@@ -4,9 +4,7 @@ ghost use Rattle.std.specs.Prelude.{◌≡◌, ◌++◌, map, IfOk, OnOk};
 ghost use Rattle.lc_arguments.specs.Reports.{report_model};
 ghost use Rattle.lc_arguments.specs.TableWords.{options_in};
 ghost use Rattle.lc_program.specs.Counts.{after_spaces, one_text};
-ghost use Rattle.lc_program.specs.ReportTexts.{IsPrintedWith, classes_kept};
-ghost use Rattle.lc_program.specs.Runs.{AnswersText};
-ghost use Rattle.lc_program.specs.Sums.{AnswersSum, PrintsParts, PrintsSum, classes_in, columns_of, needed_by, typed_text};
+ghost use Rattle.lc_program.specs.Sums.{AnswersSum, PrintsParts, PrintsSum, needed_by, typed_text};
 ghost use Rattle.lc_program.specs.Systems.{may_of};
 ghost use Rattle.lc_rows.specs.WalkedReports.{HasFilesFor};
 
@@ -15,15 +13,13 @@ use crate::cause::Cause;
 use crate::counting::is_picture;
 use crate::report_files::read_all;
 use crate::report_lines::cause_of_sum;
-use crate::showing::text_with;
+use crate::showing::table;
 use crate::system::System;
 use lc_arguments::{NamedReport, SumRequest};
 use lc_census::Source;
-use lc_reading::RowColumns;
-use lc_rows::{ClassSums, keep};
-use lc_sheet::{Columns, Condition, Format, ReportOptions};
-use lc_sums::{Needs, Part, Sum, summed};
-use lc_text::{PrintFault, Sink, print};
+use lc_sheet::{Format, ReportOptions};
+use lc_sums::{Needs, Part, summed};
+use lc_text::Sink;
 use lc_walk::Report;
 use std::alloc::{AllocError, Global};
 
@@ -70,100 +66,25 @@ fn needed_by(asked: &SumRequest<'_>) -> Needs
     Needs::of(asked.table.by, &asked.conditions, files, asked.left_out)
 }
 
-/// Turns the columns of reports' rows into the columns of a table, without a column for directories.
-fn columns_of(columns: RowColumns) -> Columns
-    ensures { result ≡ columns_of columns }
-{
-    Columns {
-        dir: None,
-        ext: columns.ext,
-        text: columns.text,
-        eol: columns.eol,
-    }
-}
-
-/// Returns the sums over the text files and over the binary files of a sum of reports.
-fn classes_in(sum: &Sum) -> ClassSums
-    ensures { result ≡ classes_in sum.now }
-{
-    ClassSums {
-        text: sum.text,
-        binary: sum.binary,
-        some_binary: sum.binary.files > 0,
-    }
-}
-
-/// Returns the sums over the text and the binary files that meet the conditions. Without conditions these are the sums over all files, and
-/// otherwise they are made from the rows of the part that was kept.
-fn classes_kept(
-    conditions: &[Condition<'_>],
-    classes: ClassSums,
-    part: &Report,
-) -> Result<ClassSums, AllocError>
-    ensures { IfOk result (λ kept. kept ≡ classes_kept conditions.now classes part.now) }
-{
-    if conditions.is_empty() {
-        return Ok(classes);
-    }
-    ClassSums::of_all(&part.rows)
-}
-
-/// Drops from a sum the files that do not meet the conditions, and makes the text of the remaining report.
-fn part_text(
-    alloc: Global,
-    report: &mut Report,
-    classes: ClassSums,
-    options: ReportOptions<'_>,
-) -> Result<Vec<u8>, AllocError>
-    requires files { HasFilesFor options.table report.now.lists }
-    ensures { IfOk result (λ text. IsPrintedWith options.entry.counted.now options.entry.conditions.now options.entry.table report.old
-        classes text.items report.new) }
-{
-    keep(alloc, options.conditions, report)?;
-    let classes = classes_kept(options.conditions, classes, report)?;
-    let text = text_with(alloc, options.counted, report, classes, options.table)?;
-    Ok(text)
-}
-
-/// Drops from a sum the files that do not meet the conditions, and writes the text of the remaining report.
-fn table<O: Sink>(
-    alloc: Global,
-    report: &mut Report,
-    classes: ClassSums,
-    options: ReportOptions<'_>,
-    out: &mut O,
-) -> Result<(), PrintFault>
-    requires files { HasFilesFor options.table report.now.lists }
-    ensures { AnswersText O.may_take
-        (λ text. IsPrintedWith options.entry.counted.now options.entry.conditions.now options.entry.table report.old classes text
-        report.new)
-        out.old result out.new }
-{
-    let text = part_text(alloc, report, classes, options)?;
-    print(out, &text)?;
-    Ok(())
-}
-
 /// Prints the table of the part of a sum that meets the conditions, and returns this part.
 fn print_sum<O: Sink>(
     alloc: Global,
     asked: &SumRequest<'_>,
-    sum: Sum,
+    sum: Report,
     format: Format,
     out: &mut O,
 ) -> Result<Report, Cause>
-    requires files { HasFilesFor (options_in format (columns_of sum.columns) asked.now.table) sum.report.lists }
+    requires files { HasFilesFor (options_in format sum.columns asked.now.table) sum.lists }
     ensures { PrintsSum O.may_take format asked.now sum out.old result out.new }
 {
     let counted = one_text(alloc, &asked.reports)?;
     let options = ReportOptions {
-        table: asked.table.options(format, columns_of(sum.columns)),
+        table: asked.table.options(format, sum.columns),
         conditions: &asked.conditions,
         counted: &counted,
     };
-    let classes = classes_in(&sum);
-    let mut report = sum.report;
-    table(alloc, &mut report, classes, options, out)?;
+    let mut report = sum;
+    table(alloc, &mut report, options, out)?;
     Ok(report)
 }
 

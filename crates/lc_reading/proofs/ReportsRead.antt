@@ -6,14 +6,16 @@ use Rattle.lc_level.specs.{FaultLines.FaultLineModel, Level.{FileLineModel, Skip
 use Rattle.lc_tree.specs.ByteOrder.{bytes_cmp}
 use Rattle.lc_walk.specs.{ReportTotals.counted_line, Sums.plus, Tally.{IsTally, sums_of_files}, TallyRows.{AddsUp, TallyRowModel}}
 use Rattle.lc_walk.specs.{TallyRows.sums_of_rows, declared.tally.sums.Sums.Sums}
-use Rattle.lc_rows.specs.Classes.{binary_sums}
 use Rattle.lc_reading.specs.{Kept.{Agrees, IsFinished, IsKept, IsKeptOf}, Lines.{IsFaultOf, IsFileOf, IsSkippedOf}, Members.Member}
 use Rattle.lc_reading.specs.{Members.{HasNumber, Lacks, members_of, named}, Objects.{HasLines, IsObjectOf, MayHaveLines, is_value}}
 use Rattle.lc_reading.specs.{Reports.{HasOrdered, HaveColumns, IsNumbersOf, IsReportOf, row_in}, Rows.{HasSums, IsRowOf}}
 use Rattle.lc_reading.specs.declared.{kept_files.Kept.Kept, member_name.MemberName.MemberName, numbers_of.Numbers.Numbers}
-use Rattle.lc_reading.specs.declared.{object.Object.Object, read_report.ReadReport.ReadReport, row_columns.RowColumns.RowColumns}
+use Rattle.lc_reading.specs.declared.object.Object.{Object}
 use Rattle.lc_reading.specs.declared.rows.ReadRow.{ReadRow}
 use Rattle.lc_reading.specs.declared.member_name.MemberName.TheVariants as name
+use Rattle.lc_walk.specs.{Classes.binary_sums, AllColumns.all_columns, declared.tally.classes.ClassSums.ClassSums}
+use Rattle.lc_sheet.specs.declared.table_options.Columns.{Columns}
+use Rattle.lc_walk.specs.declared.report.Report.{Report}
 
 -- ---- numbers, of members that are among others
 
@@ -70,7 +72,7 @@ FilesOf ms has_files files total =
     (HasOrdered IsFileOf (λ f. f.path) name.Files ms files ⊎ (Lacks name.Files ms × (files ≡ []) × (total ≡ 0)))
     (Lacks name.Files ms × (files ≡ []) × (total ≢ 0))
 
-files_among : (ms : List Member) (files : Option (List FileLineModel)) (columns : RowColumns) (rows : List TallyRowModel) (total : Sums)
+files_among : (ms : List Member) (files : Option (List FileLineModel)) (columns : Columns) (rows : List TallyRowModel) (total : Sums)
     (k : Kept)
     → MayHaveLines IsFileOf name.Files ms files → IsKept files columns rows total k → FilesOf ms k.has_files k.files.items total.files
 files_among ms (Some files) columns rows total k may kept =
@@ -81,11 +83,11 @@ files_among ms None columns rows total k may (inl kept) =
 files_among ms None columns rows total k may (inr kept) =
     subst (λ b. FilesOf ms b k.files.items total.files) (sym kept.0.unlisted) (may, kept.0.none, kept.1)
 
-abbrev RowsKept : Bool → RowColumns → RowColumns → List TallyRowModel → List TallyRowModel → Type 0
+abbrev RowsKept : Bool → Columns → Columns → List TallyRowModel → List TallyRowModel → Type 0
 RowsKept has_files kept columns rows made =
-    MatchBool has_files (kept ≡ record { ext = true; text = true; eol = true }) ((kept ≡ columns) × AddsUp rows made)
+    MatchBool has_files (kept ≡ all_columns) ((kept ≡ columns) × AddsUp rows made)
 
-rows_kept : (files : Option (List FileLineModel)) (columns : RowColumns) (rows : List TallyRowModel) (total : Sums) (k : Kept)
+rows_kept : (files : Option (List FileLineModel)) (columns : Columns) (rows : List TallyRowModel) (total : Sums) (k : Kept)
     → IsKept files columns rows total k → RowsKept k.has_files k.columns columns rows k.rows.items
 rows_kept (Some files) columns rows total k kept = subst (λ b. RowsKept b k.columns columns rows k.rows.items) (sym kept.listed)
     kept.columns_are
@@ -104,7 +106,7 @@ sums_of_kept : (total : Sums) (files : List FileLineModel) (k : Kept) → IsKept
     → SumsKept total k.has_files k.rows.items k.files.items
 sums_of_kept total files k kept = record { rows_are = kept.rows_are; files_are = λ h. kept.files_are; tally = λ h. kept.tally }
 
-sums_kept : (files : Option (List FileLineModel)) (columns : RowColumns) (rows : List TallyRowModel) (total : Sums) (k : Kept)
+sums_kept : (files : Option (List FileLineModel)) (columns : Columns) (rows : List TallyRowModel) (total : Sums) (k : Kept)
     → IsKept files columns rows total k → SumsKept total k.has_files k.rows.items k.files.items
 sums_kept (Some files) columns rows total k kept = sums_of_kept total files k kept
 sums_kept None columns rows total k (inl kept) = sums_of_kept total [] k kept.0
@@ -116,9 +118,9 @@ sums_kept None columns rows total k (inr kept) = record {
 
 -- ---- the whole report
 
-pub report_is : (ms : List Member) (o : Object) (n : Numbers) (rows : Vec ReadRow Global) (columns : RowColumns) (tally : Vec
+pub report_is : (ms : List Member) (o : Object) (n : Numbers) (rows : Vec ReadRow Global) (columns : Columns) (tally : Vec
     TallyRowModel Global) (k : Kept)
-    (skipped : Vec SkippedLineModel Global) (faults : Vec FaultLineModel Global) (r : ReadReport)
+    (skipped : Vec SkippedLineModel Global) (faults : Vec FaultLineModel Global) (r : Report)
     → IsObjectOf ms o → IsNumbersOf (members_of o.values.items) n → n.is_cut ≡ false → o.rows ≡ Some rows → o.faults ≡ Some faults
     → MatchOption n.entries ((o.skipped ≡ None) × (skipped.items ≡ [])) (λ _. o.skipped ≡ Some skipped)
     → HaveColumns columns rows.items → tally.items ≡ map row_in rows.items
@@ -133,48 +135,49 @@ report_is ms o n rows columns tally k skipped faults r is numbers uncut rows_the
     subst (λ (t : Option (Vec FaultLineModel Global)). MayHaveLines IsFaultOf name.Faults ms (option_map (λ v. v.items) t)) faults_there
     is.faults in
     let files : Option (List FileLineModel) = option_map (λ v. v.items) o.files in
+    let binary_is : r.classes.binary ≡ n.binary = ap (λ (c : ClassSums). c.binary) made.classes_are in
     let sums : SumsKept n.total k.has_files k.rows.items k.files.items = sums_kept files columns tally.items n.total k agrees.kept in
     record {
       uncut = cut_among n.is_cut ms vs uncut (among name.Others refl) numbers.uncut;
       total = subst (HasSums name.Total ms) (sym made.totals_are) (sums_among name.Total ms vs n.total (among name.Total refl)
           numbers.total);
-      text = subst (HasSums name.Text ms) (sym made.text_is) (sums_among name.Text ms vs n.text (among name.Text refl) numbers.text);
-      binary = subst (HasSums name.Binary ms) (sym made.binary_is) (sums_among name.Binary ms vs n.binary (among name.Binary refl)
+      text = subst (HasSums name.Text ms) (sym (ap (λ (c : ClassSums). c.text) made.classes_are)) (sums_among name.Text ms vs n.text
+          (among name.Text refl) numbers.text);
+      binary = subst (HasSums name.Binary ms) (sym binary_is) (sums_among name.Binary ms vs n.binary (among name.Binary refl)
           numbers.binary);
       directories = subst (HasNumber name.Directories ms) (sym made.directories_are) (sym (among name.Directories refl)
           ∙ numbers.directories);
-      entries = entries_among n.entries ms vs (among name.Entries refl) numbers.entries r.report.lists.left_out made.left_out
-          r.report.entries made.entries_are;
+      entries = entries_among n.entries ms vs (among name.Entries refl) numbers.entries r.lists.left_out made.left_out
+          r.entries made.entries_are;
       rows = record {
         columns = columns;
         rows = rows.items;
         are = record { has = rows_in; columns_are = columns_are; total_is = made.totals_are ∙ agrees.rows_are ∙ ap sums_of_rows tally_is };
-        nul = λ h. made.binary_is ∙ agrees.rows_nul h ∙ ap binary_sums tally_is;
-        kept = subst (λ b. RowsKept b r.columns columns (map row_in rows.items) r.report.rows.items) (sym made.has_files)
-            (subst (λ c. RowsKept k.has_files c columns (map row_in rows.items) r.report.rows.items) (sym made.columns_are)
-            (subst (λ t. RowsKept k.has_files k.columns columns t r.report.rows.items) tally_is
+        nul = λ h. binary_is ∙ agrees.rows_nul h ∙ ap binary_sums tally_is;
+        kept = subst (λ b. RowsKept b r.columns columns (map row_in rows.items) r.rows.items) (sym made.has_files)
+            (subst (λ c. RowsKept k.has_files c columns (map row_in rows.items) r.rows.items) (sym made.columns_are)
+            (subst (λ t. RowsKept k.has_files k.columns columns t r.rows.items) tally_is
             (subst (λ (v : Vec TallyRowModel Global). RowsKept k.has_files k.columns columns tally.items v.items) (sym made.rows_are)
             (rows_kept files columns tally.items n.total k agrees.kept))));
       };
-      files = subst (λ b. FilesOf ms b r.report.files.items r.report.totals.files) (sym made.has_files)
-          (subst (λ (v : Vec FileLineModel Global). FilesOf ms k.has_files v.items r.report.totals.files) (sym made.files_are)
+      files = subst (λ b. FilesOf ms b r.files.items r.totals.files) (sym made.has_files)
+          (subst (λ (v : Vec FileLineModel Global). FilesOf ms k.has_files v.items r.totals.files) (sym made.files_are)
           (subst (λ (s : Sums). FilesOf ms k.has_files k.files.items s.files) (sym made.totals_are)
           (files_among ms files columns tally.items n.total k is.files agrees.kept)));
-      skipped = skipped_among ms n.entries o.skipped skipped r.report.skipped.items skipped_are is.skipped made.skipped_are
+      skipped = skipped_among ms n.entries o.skipped skipped r.skipped.items skipped_are is.skipped made.skipped_are
           made.skipped_order
-          r.report.lists.left_out made.left_out;
-      faults = ordered_of IsFaultOf (λ f. f.path) name.Faults ms faults.items r.report.faults.items faults_in made.faults_are
+          r.lists.left_out made.left_out;
+      faults = ordered_of IsFaultOf (λ f. f.path) name.Faults ms faults.items r.faults.items faults_in made.faults_are
           made.faults_order;
       adds_up = record {
         rows = made.totals_are ∙ sums.rows_are ∙ ap (λ (v : Vec TallyRowModel Global). sums_of_rows v.items) (sym made.rows_are);
+        classes = made.totals_are ∙ agrees.parts ∙ ap (λ (c : ClassSums). plus c.text c.binary) (sym made.classes_are);
         files = λ h. made.totals_are ∙ sums.files_are (sym made.has_files ∙ h)
             ∙ ap (λ (v : Vec FileLineModel Global). sums_of_files (map counted_line v.items)) (sym made.files_are);
-        tally = λ h. subst (λ (v : Vec FileLineModel Global). IsTally (map counted_line v.items) r.report.rows.items) (sym made.files_are)
+        tally = λ h. subst (λ (v : Vec FileLineModel Global). IsTally (map counted_line v.items) r.rows.items) (sym made.files_are)
             (subst (λ (v : Vec TallyRowModel Global). IsTally (map counted_line k.files.items) v.items) (sym made.rows_are) (sums.tally
             (sym made.has_files ∙ h)));
       };
-      parts = made.totals_are ∙ agrees.parts ∙ ap (λ (s : Sums). plus s n.binary) (sym made.text_is)
-          ∙ ap (plus r.text) (sym made.binary_is);
-      nul = λ h. made.binary_is ∙ agrees.nul (ap (λ (c : RowColumns). c.eol) (sym made.columns_are) ∙ h)
+      nul = λ h. binary_is ∙ agrees.nul (ap (λ (c : Columns). c.eol) (sym made.columns_are) ∙ h)
           ∙ ap (λ (v : Vec TallyRowModel Global). binary_sums v.items) (sym made.rows_are);
     }

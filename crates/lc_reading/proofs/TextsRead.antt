@@ -6,7 +6,8 @@ use Rattle.json.specs.{Json.{Json, document, if_last, max_depth, object, skip_va
 use Rattle.json.specs.Tree.{json_tokens}
 use Rattle.json.proofs.{Found.{Some_inj, one_reading}, Grammar.left_some, Printed.Trees.value-json_tokens}
 use Rattle.lc_reading.specs.{Members.{Member, members_with}, Objects.{IsObjectOf, TakesObject}, Reports.IsReportOf, Texts.AreReportTexts}
-use Rattle.lc_reading.specs.{Texts.{IsJson, IsReportText}, declared.{object.Object.Object, read_report.ReadReport.ReadReport}}
+use Rattle.lc_reading.specs.{Texts.{IsJson, IsReportText}, declared.object.Object.Object}
+use Rattle.lc_walk.specs.declared.report.Report.{Report}
 
 pub json_is : (text : List ℕ) (rest : List Token) → skip_value max_depth (tokens text) ≡ Some rest → rest ≡ [] → IsJson text
 json_is text rest e none =
@@ -27,7 +28,7 @@ same_value text j k is tokens_are =
     ap (λ (p : Json × List Token). p.0) (Some_inj (j, []) (k, []) (one_reading max_depth (depth k) (tokens text) (j, []) (k, []) read
     spelled))
 
-pub report_text : (text : List ℕ) (o : Object) (rest : List Token) (r : ReadReport) → IsJson text → TakesObject o (tokens text) rest
+pub report_text : (text : List ℕ) (o : Object) (rest : List Token) (r : Report) → IsJson text → TakesObject o (tokens text) rest
     → rest ≡ []
     → ((ms : List Member) → IsObjectOf ms o → IsReportOf ms r) → IsReportText text r
 report_text text o rest r json takes none made = record {
@@ -38,19 +39,19 @@ report_text text o rest r json takes none made = record {
 }
 
 -- some first texts were read
-pub record TextsSoFar (text rest : List ℕ) (reports : List ReadReport) : Type 0 where
+pub record TextsSoFar (text rest : List ℕ) (reports : List Report) : Type 0 where
   pub texts : List (List ℕ)
   pub front : text ≡ flat_map (λ t. t) texts ++ rest
   pub each : AreReportTexts texts reports
 
-texts_pushed : (ts : List (List ℕ)) (rs : List ReadReport) (t : List ℕ) (r : ReadReport) → AreReportTexts ts rs → IsReportText t r
+texts_pushed : (ts : List (List ℕ)) (rs : List Report) (t : List ℕ) (r : Report) → AreReportTexts ts rs → IsReportText t r
     → AreReportTexts (ts ++ t ∷ []) (rs ++ r ∷ [])
 texts_pushed [] [] t r are is = (is, tt)
 texts_pushed [] (q ∷ qs) t r are is = absurd are
 texts_pushed (u ∷ us) [] t r are is = absurd are
 texts_pushed (u ∷ us) (q ∷ qs) t r are is = (are.0, texts_pushed us qs t r are.1 is)
 
-pub one_text_more : (text rest piece more : List ℕ) (reports : List ReadReport) (r : ReadReport) → TextsSoFar text rest reports
+pub one_text_more : (text rest piece more : List ℕ) (reports : List Report) (r : Report) → TextsSoFar text rest reports
     → rest ≡ piece ++ more
     → IsReportText piece r → TextsSoFar text more (reports ++ r ∷ [])
 one_text_more text rest piece more reports r far cut is = record {

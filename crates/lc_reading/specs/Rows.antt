@@ -6,8 +6,9 @@ use Rattle.lc_census.specs.{EolWords.eol_word, declared.line_count.Eol.TheVarian
 use Rattle.lc_rules.specs.declared.states.TextState.TheVariants.{Unspecified}
 use Rattle.lc_walk.specs.{Key.Key, declared.tally.sums.Sums.Sums}
 use Rattle.lc_reading.specs.{Lines.HasTextState, Members.{Member, Has, HasBytes, HasNumber, HasText, Lacks, members_with}}
-use Rattle.lc_reading.specs.declared.{member_name.MemberName.MemberName, row_columns.RowColumns.RowColumns, rows.ReadRow.ReadRow}
+use Rattle.lc_reading.specs.declared.{member_name.MemberName.MemberName, rows.ReadRow.ReadRow}
 use Rattle.lc_reading.specs.declared.member_name.MemberName.TheVariants as member
+use Rattle.lc_sheet.specs.declared.table_options.Columns.{Columns}
 
 -- ---- sums
 
@@ -39,7 +40,7 @@ HasExtension ms None = Has member.Ext ms null × Lacks member.ExtBytes ms
 HasExtension ms (Some e) = HasBytes member.Ext member.ExtBytes ms (46 ∷ e) × (is_extension e ≡ true)
 
 -- the key of a row: its values in the columns that rows are grouped by; in any other column it has no member, and a fixed value
-pub record IsKeyOf (columns : RowColumns) (ms : List Member) (k : Key) : Type 0 where
+pub record IsKeyOf (columns : Columns) (ms : List Member) (k : Key) : Type 0 where
   pub extension : MatchBool columns.ext (HasExtension ms k.extension)
       (Lacks member.Ext ms × Lacks member.ExtBytes ms × (k.extension ≡ None))
   pub text : MatchBool columns.text (HasTextState ms k.text) (Lacks member.Text ms × (k.text ≡ Unspecified))

@@ -1,7 +1,8 @@
 -- The texts that are read as reports.
 use Rattle.std.specs.{Prelude.{◌≡◌, ◌<◌, ℕ, true, List, [], ◌∷◌, ◌++◌, length, ⊤, Some}, List.{flat_map, list_all}}
 use Rattle.json.specs.{Json.{Json, document, object}, Word.is_space}
-use Rattle.lc_reading.specs.{Members.{Member, members_with}, Reports.IsReportOf, declared.read_report.ReadReport.ReadReport}
+use Rattle.lc_reading.specs.{Members.{Member, members_with}, Reports.IsReportOf}
+use Rattle.lc_walk.specs.declared.report.Report.{Report}
 
 -- a text is one JSON value (RFC 8259), with white space
 pub record IsJson (text : List ℕ) : Type 0 where
@@ -9,20 +10,20 @@ pub record IsJson (text : List ℕ) : Type 0 where
   pub is : document text ≡ Some value
 
 -- a text is one JSON object, which is this report
-pub record IsReportText (text : List ℕ) (r : ReadReport) : Type 0 where
+pub record IsReportText (text : List ℕ) (r : Report) : Type 0 where
   pub members : List Member
   pub value_is : document text ≡ Some (object (members_with members))
   pub is : IsReportOf members r
 
 -- each of these texts is that of a report, in the same order
-abbrev pub AreReportTexts : List (List ℕ) → List ReadReport → Type 0
+abbrev pub AreReportTexts : List (List ℕ) → List Report → Type 0
 AreReportTexts [] [] = ⊤
 AreReportTexts [] (r ∷ rs) = ⊥
 AreReportTexts (t ∷ ts) [] = ⊥
 AreReportTexts (t ∷ ts) (r ∷ rs) = IsReportText t r × AreReportTexts ts rs
 
 -- a text is made of the texts of these reports, at least one, one after another, and white space
-pub record AreReportsOf (text : List ℕ) (reports : List ReadReport) : Type 0 where
+pub record AreReportsOf (text : List ℕ) (reports : List Report) : Type 0 where
   pub texts : List (List ℕ)
   pub blank : List ℕ
   pub whole : text ≡ flat_map (λ t. t) texts ++ blank

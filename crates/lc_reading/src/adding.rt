@@ -1,37 +1,22 @@
 //! Comparing the sums over the parts of a report, such as its rows, with the report's total.
 
-ghost use Rattle.std.specs.Prelude.{◌≡◌, IfOk, IfSome, IsTrue, map};
-ghost use Rattle.lc_reading.specs.Reports.{nul_part};
-ghost use Rattle.lc_rows.specs.Classes.{binary_sums};
+ghost use Rattle.std.specs.Prelude.{◌≡◌, IfOk, IsTrue, map};
+ghost use Rattle.lc_walk.specs.Classes.{binary_sums};
 ghost use Rattle.lc_walk.specs.ReportTotals.{counted_line};
 ghost use Rattle.lc_walk.specs.Sums.{plus};
 ghost use Rattle.lc_walk.specs.Tally.{IsTally, StandsFor, sums_of_files};
 ghost use Rattle.lc_walk.specs.TallyRows.{sums_of_rows};
 
 use crate::read_fault::ReadFault;
-use lc_census::Eol;
 use lc_rows::name_of;
-use lc_walk::{FileLine, Sums, Tally, TallyRow, extension};
+use lc_walk::{ClassSums, FileLine, Sums, Tally, TallyRow, extension, sums_of_rows};
 use std::alloc::{AllocError, Global};
-
-/// Returns the sums over all rows, if they fit their types.
-fn sums_over(rows: &[TallyRow]) -> Option<Sums>
-    ensures { IfSome result (λ sums. sums ≡ sums_of_rows rows.now) }
-{
-    let mut sums = Sums::none();
-    let mut rest = rows;
-    'rows: while let Some((row, others)) = rest.split_first() {
-        sums = sums.checked_add(row.sums())?;
-        rest = others;
-    }
-    Some(sums)
-}
 
 /// Returns whether rows add up to a total.
 pub(crate) fn rows_add_up(rows: &[TallyRow], total: Sums) -> bool
     ensures { IsTrue result → total ≡ sums_of_rows rows.now }
 {
-    match sums_over(rows) {
+    match sums_of_rows(rows) {
         Some(sums) => total == sums,
         None => false,
     }
@@ -64,35 +49,12 @@ fn tally_of(alloc: Global, files: &[FileLine]) -> Result<Tally, AllocError>
     Ok(tally)
 }
 
-/// Returns the sums of a row if its files hold a NUL byte, and otherwise the sums over no files.
-fn nul_part(row: &TallyRow) -> Sums
-    ensures { result ≡ nul_part row.now }
-{
-    match row.eol {
-        Eol::Nul => row.sums(),
-        _ => Sums::none(),
-    }
-}
-
-/// Returns the sums over the rows whose files hold a NUL byte, if they fit their types.
-fn nul_sums(rows: &[TallyRow]) -> Option<Sums>
-    ensures { IfSome result (λ sums. sums ≡ binary_sums rows.now) }
-{
-    let mut sums = Sums::none();
-    let mut rest = rows;
-    'rows: while let Some((row, others)) = rest.split_first() {
-        sums = sums.checked_add(nul_part(row))?;
-        rest = others;
-    }
-    Some(sums)
-}
-
 /// Returns whether the rows whose files hold a NUL byte add up to the sums over binary files.
 pub(crate) fn binary_adds_up(rows: &[TallyRow], binary: Sums) -> bool
     ensures { IsTrue result → binary ≡ binary_sums rows.now }
 {
-    match nul_sums(rows) {
-        Some(sums) => binary == sums,
+    match ClassSums::of(rows) {
+        Some(classes) => binary == classes.binary,
         None => false,
     }
 }

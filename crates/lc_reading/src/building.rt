@@ -12,9 +12,8 @@ use crate::member_name::MemberName;
 use crate::numbers_of::{Numbers, numbers_of};
 use crate::object::Object;
 use crate::read_fault::{NoReport, Part, ReadFault};
-use crate::read_report::ReadReport;
-use crate::row_columns::RowColumns;
-use lc_walk::{FaultLine, FileLine, Report, ReportLists, SkippedLine, TallyRow};
+use lc_sheet::Columns;
+use lc_walk::{ClassSums, FaultLine, FileLine, Report, ReportLists, SkippedLine, TallyRow};
 use std::alloc::{AllocError, Global};
 
 fn lines_of<T: Drop>(lines: Option<Vec<T>>, name: MemberName) -> Result<Vec<T>, NoReport>
@@ -56,7 +55,7 @@ fn is_cut(numbers: &Numbers, files: &Option<Vec<FileLine>>) -> bool
 fn agreeing(
     alloc: Global,
     numbers: &Numbers,
-    columns: RowColumns,
+    columns: Columns,
     rows: Vec<TallyRow>,
     files: Option<Vec<FileLine>>,
 ) -> Result<Kept, ReadFault>
@@ -81,33 +80,32 @@ fn finished(
     kept: Kept,
     skipped: Vec<SkippedLine>,
     faults: Vec<FaultLine>,
-) -> Result<ReadReport, AllocError>
+) -> Result<Report, AllocError>
     ensures { IfOk result (IsFinished numbers.now kept skipped.items faults.items) }
 {
     let lists = ReportLists {
         files: kept.has_files,
         left_out: numbers.entries.is_some(),
     };
-    let report = Report {
+    Ok(Report {
         rows: kept.rows,
+        columns: kept.columns,
         totals: numbers.total,
+        classes: ClassSums {
+            text: numbers.text,
+            binary: numbers.binary,
+        },
         directories: numbers.directories,
         entries: numbers.entries.unwrap_or(0),
         lists,
         files: kept.files,
         faults: in_order(faults)?,
         skipped: in_order(skipped)?,
-    };
-    Ok(ReadReport {
-        report,
-        columns: kept.columns,
-        text: numbers.text,
-        binary: numbers.binary,
     })
 }
 
 /// Makes a report from its JSON object, or returns why the object is no report.
-pub(crate) fn report_of(alloc: Global, object: Object<'_>) -> Result<ReadReport, ReadFault>
+pub(crate) fn report_of(alloc: Global, object: Object<'_>) -> Result<Report, ReadFault>
     ensures { IfOk result (λ report. (ms : List Member) → IsObjectOf ms object.entry → IsReportOf ms report) }
 {
     let Object {

@@ -9,16 +9,16 @@ ghost use Rattle.lc_reading.specs.Reports.{HaveColumns, row_in};
 use crate::adding::{rows_add_up, rows_of_files};
 use crate::member_name::MemberName;
 use crate::read_fault::{NoReport, Part, ReadFault};
-use crate::row_columns::RowColumns;
 use crate::rows::ReadRow;
 use lc_level::Line;
+use lc_sheet::Columns;
 use lc_walk::{FileLine, Sums, TallyRow, added_up, sort_lines};
 use std::alloc::{AllocError, Global};
 
 /// The rows and the files of a report that was read, and the columns of the rows.
 #[derive(Debug, Drop)]
 pub(crate) struct Kept {
-    pub(crate) columns: RowColumns,
+    pub(crate) columns: Columns,
     pub(crate) rows: Vec<TallyRow>,
     pub(crate) has_files: bool,
     pub(crate) files: Vec<FileLine>,
@@ -43,11 +43,11 @@ pub(crate) fn in_order<L: Line + Drop>(mut lines: Vec<L>) -> Result<Vec<L>, Allo
 }
 
 /// Returns the columns of the rows, which must all have the same ones. Without rows, returns all columns.
-pub(crate) fn columns_of_rows(rows: &[ReadRow]) -> Result<RowColumns, NoReport>
+pub(crate) fn columns_of_rows(rows: &[ReadRow]) -> Result<Columns, NoReport>
     ensures { IfOk result (λ columns. HaveColumns columns rows.now) }
 {
     let Some((first, others)) = rows.split_first() else {
-        return Ok(RowColumns::all());
+        return Ok(Columns::ALL);
     };
     let columns = first.columns;
     let mut rest = others;
@@ -81,7 +81,7 @@ fn with_files(alloc: Global, files: Vec<FileLine>, total: Sums) -> Result<Kept, 
         return Err(ReadFault::DoNotAddUp(Part::Files));
     }
     Ok(Kept {
-        columns: RowColumns::all(),
+        columns: Columns::ALL,
         rows,
         has_files: true,
         files,
@@ -91,7 +91,7 @@ fn with_files(alloc: Global, files: Vec<FileLine>, total: Sums) -> Result<Kept, 
 /// Sums the rows of a report that lists no files, one for each key. They must add up to the total.
 fn without_files(
     alloc: Global,
-    columns: RowColumns,
+    columns: Columns,
     rows: Vec<TallyRow>,
     total: Sums,
 ) -> Result<Kept, ReadFault>
@@ -115,7 +115,7 @@ fn without_files(
 pub(crate) fn kept_of(
     alloc: Global,
     files: Option<Vec<FileLine>>,
-    columns: RowColumns,
+    columns: Columns,
     rows: Vec<TallyRow>,
     total: Sums,
 ) -> Result<Kept, ReadFault>

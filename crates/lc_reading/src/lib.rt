@@ -16,7 +16,6 @@
 //! - `members`, `member_name`: the members of a JSON object, and their names
 //! - `values`, `numbers`: reading numbers, texts and bytes
 //! - `words`: finding the kind of line end, the error or the state that a word names
-//! - `read_report`, `row_columns`: a report that was read, and the columns of its rows
 //! - `read_fault`: why no report is read
 #![tactic(auto)]
 
@@ -34,9 +33,7 @@ mod numbers;
 mod numbers_of;
 mod object;
 mod read_fault;
-mod read_report;
 mod reading;
-mod row_columns;
 mod rows;
 mod rule_places;
 mod skipped_lines;
@@ -47,6 +44,4 @@ mod words;
 
 pub use member_name::MemberName;
 pub use read_fault::{NoReport, Part, ReadFault};
-pub use read_report::ReadReport;
 pub use reading::read_reports;
-pub use row_columns::RowColumns;

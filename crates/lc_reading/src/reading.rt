@@ -11,8 +11,8 @@ use crate::building::report_of;
 use crate::cutter::object_length;
 use crate::object::read_object;
 use crate::read_fault::{NoReport, ReadFault};
-use crate::read_report::ReadReport;
 use json::{MAX_DEPTH, Reader, Scratch};
+use lc_walk::Report;
 use std::alloc::Global;
 use std::str::from_utf8;
 
@@ -54,7 +54,7 @@ fn report_in(
     text: &str,
     start: usize,
     scratch: &mut Scratch<Global>,
-) -> Result<ReadReport, ReadFault>
+) -> Result<Report, ReadFault>
     ensures { IfOk result (IsReportText text.now) }
 {
     check_json(text, start, scratch)?;
@@ -96,7 +96,7 @@ fn cut(text: &[u8], start: usize) -> Result<(&str, &[u8]), ReadFault>
 /// ```
 /// let reports = read_reports(alloc, &text)?;
 /// ```
-pub fn read_reports(alloc: Global, text: &[u8]) -> Result<Vec<ReadReport>, ReadFault>
+pub fn read_reports(alloc: Global, text: &[u8]) -> Result<Vec<Report>, ReadFault>
     ensures reports { IfOk result (λ reports. AreReportsOf text.now reports.items) }
     ensures empty { list_all is_space text.now ≡ true → result ≡ Err (fault.NoReport why.Empty) }
 {

@@ -15,19 +15,19 @@ use crate::lines::{eol_in, text_state_in};
 use crate::member_name::MemberName;
 use crate::members::optional;
 use crate::read_fault::{NoReport, ReadFault};
-use crate::row_columns::RowColumns;
 use crate::sums::sums_of;
 use crate::values::bytes_in;
 use json::Value;
 use lc_census::Eol;
 use lc_rules::TextState;
+use lc_sheet::Columns;
 use lc_walk::TallyRow;
 use std::alloc::Global;
 
 /// A row of a report that was read, with the columns that the row has.
 #[derive(Debug, Drop)]
 pub(crate) struct ReadRow {
-    pub(crate) columns: RowColumns,
+    pub(crate) columns: Columns,
     pub(crate) row: TallyRow,
 }
 
@@ -125,7 +125,7 @@ fn eol_in_column<'a>(members: &[(&'a str, Value<'a>)], there: bool) -> Result<Eo
 }
 
 /// Finds the columns that a row has.
-fn columns_of<'a>(members: &[(&'a str, Value<'a>)]) -> Result<RowColumns, NoReport>
+fn columns_of<'a>(members: &[(&'a str, Value<'a>)]) -> Result<Columns, NoReport>
     ensures ext { IfOk result (λ c. MatchBool c.ext ⊤
         (Lacks name.Ext (members_of members.now) × Lacks name.ExtBytes (members_of members.now))) }
     ensures text { IfOk result (λ c. MatchBool c.text ⊤ (Lacks name.Text (members_of members.now))) }
@@ -135,7 +135,8 @@ fn columns_of<'a>(members: &[(&'a str, Value<'a>)]) -> Result<RowColumns, NoRepo
     let listed = has(members, MemberName::ExtBytes)?;
     let text = has(members, MemberName::Text)?;
     let eol = has(members, MemberName::Eol)?;
-    Ok(RowColumns {
+    Ok(Columns {
+        dir: None,
         ext: ext || listed,
         text,
         eol,

@@ -5,14 +5,16 @@ use Rattle.std.proofs.lemmas.List.Sorted.{IsPermutation-map}
 use Rattle.std.specs.List.{after_last, list_all}
 use Rattle.lc_glob.specs.{Bytes.slash, Pieces.is_byte}
 use Rattle.lc_level.specs.Level.{FileLineModel}
-use Rattle.lc_reports.proofs.{NamedPaths.last_after, NumbersInTurn.totals_cons}
-use Rattle.lc_reports.specs.{Joined.{all_files, all_rows, all_totals, if_wanted}, Laws.{HasPath, JoinTotalsLaw, NameTotalsLaw}}
+use Rattle.lc_reports.proofs.{NamedPaths.last_after, NumbersInTurn.{binary_cons, text_cons, totals_cons}}
+use Rattle.lc_reports.specs.Joined.{all_binary, all_files, all_rows, all_text, all_totals, if_wanted}
+use Rattle.lc_reports.specs.Laws.{HasPath, JoinTotalsLaw, NameTotalsLaw}
 use Rattle.lc_reports.specs.Named.{named_file, named_path}
-use Rattle.lc_walk.proofs.{Joining.{stands_both, stands_none, sums_permuted, tally_added_up, tally_permuted}, RowSums.has_same}
+use Rattle.lc_walk.proofs.{Joining.{stands_both, stands_none, sums_permuted, tally_added_up, tally_permuted}, RowSums.{has_same, same_sums}}
 use Rattle.lc_walk.proofs.{RowSums.sums_of_both, Totals.same_totals}
 use Rattle.lc_walk.specs.{Extension.extension_of, ReportTotals.{TotalsAddUp, counted_line}, Sums.{no_files, plus}, Tally.CountedFile}
 use Rattle.lc_walk.specs.{Tally.{IsTally, StandsFor, TallyModel, counted, sums_of_files}, TallyRows.{TallyRowModel, sums_of_rows}}
-use Rattle.lc_walk.specs.declared.{options.ReportLists.ReportLists, report.Report.Report, tally.sums.Sums.Sums}
+use Rattle.lc_walk.specs.declared.{options.ReportLists.ReportLists, report.Report.Report}
+use Rattle.lc_walk.specs.declared.tally.{classes.ClassSums.ClassSums, sums.Sums.Sums}
 
 -- the totals of all are the sums over the rows of all
 rows_total : (rs : List Report) → All TotalsAddUp rs → all_totals rs ≡ sums_of_rows (all_rows rs)
@@ -20,6 +22,16 @@ rows_total [] all = refl
 rows_total (r ∷ rs) all =
     totals_cons r rs ∙ ap₂ plus (All-head TotalsAddUp r rs all).rows (rows_total rs (All-tail TotalsAddUp r rs all))
     ∙ sym (sums_of_both r.rows.items (all_rows rs)) ∙ ap sums_of_rows (sym (flat_map-cons (λ (x : Report). x.rows.items) r rs))
+
+-- and over their text and over their binary files
+classes_total : (rs : List Report) → All TotalsAddUp rs → all_totals rs ≡ plus (all_text rs) (all_binary rs)
+classes_total [] all = refl
+classes_total (r ∷ rs) all =
+    totals_cons r rs ∙ ap₂ plus (All-head TotalsAddUp r rs all).classes (classes_total rs (All-tail TotalsAddUp r rs all))
+    ∙ crossed r.classes.text r.classes.binary (all_text rs) (all_binary rs) ∙ sym (ap₂ plus (text_cons r rs) (binary_cons r rs))
+  where
+    crossed : (a b c d : Sums) → plus (plus a b) (plus c d) ≡ plus (plus a c) (plus b d)
+    crossed a b c d = same_sums _ _ (omega arith) (omega arith) (omega arith) (omega arith)
 
 -- ---- where each lists its files
 
@@ -68,6 +80,7 @@ join_totals rs r all is =
     λ listed. stand_for_all rs all (sym (ap (λ (l : ReportLists). l.files) is.lists) ∙ listed) in
     record {
       rows = is.totals ∙ rows_total rs all ∙ sym (same_totals r.rows.items (all_rows rs) is.rows.same.sums);
+      classes = is.totals ∙ classes_total rs all ∙ sym (ap₂ plus is.text is.binary);
       files = λ listed. is.totals ∙ (stood listed).totals
           ∙ sums_permuted (counted_files rs) (map counted_line r.files.items) (files_of_all listed);
       tally = λ listed. tally_permuted r.rows.items (counted_files rs) (map counted_line r.files.items) (files_of_all listed)
@@ -103,6 +116,7 @@ name_totals name r named have adds is =
     let listed : named.lists.files ≡ true → r.lists.files ≡ true = λ e. sym (ap (λ (l : ReportLists). l.files) is.lists) ∙ e in
     record {
       rows = is.totals ∙ adds.rows ∙ ap sums_of_rows (sym is.rows);
+      classes = is.totals ∙ adds.classes ∙ ap (λ (c : ClassSums). plus c.text c.binary) (sym is.classes);
       files = λ e. is.totals ∙ adds.files (listed e) ∙ ap sums_of_files (sym same);
       tally = λ e. subst (λ l. IsTally l named.rows.items) (sym same) (subst (IsTally (map counted_line r.files.items)) (sym is.rows)
           (adds.tally (listed e)));

@@ -13,6 +13,7 @@ use Rattle.lc_reports.specs.LineOrder.{skipped_cmp}
 use Rattle.lc_walk.proofs.{Keys.{equal_if, key_cmp_total}, RowSums.sums_of_one}
 use Rattle.lc_walk.specs.{Key.{Key, key_cmp, same_key}, TallyRows.{AddsUp, IsInOrder, TallyRowModel, row_with, rows_with, sums_of_rows}}
 use Rattle.lc_walk.specs.declared.{options.ReportLists.ReportLists, tally.sums.Sums.Sums}
+use Rattle.lc_walk.proofs.Classes.{same_classes}
 
 both : (a b : Bool) → T a → T b → T (a && b)
 both true b p q = q
@@ -137,7 +138,9 @@ join_once rs r s filled a b =
     b.skipped in
     record {
       rows = one_sum (all_rows rs) r.rows.items s.rows.items filled a.rows b.rows;
+      columns = a.columns ∙ sym b.columns;
       totals = a.totals ∙ sym b.totals;
+      classes = same_classes r.classes s.classes (a.text ∙ sym b.text) (a.binary ∙ sym b.binary);
       directories = a.directories ∙ sym b.directories;
       entries = a.entries ∙ sym b.entries;
       lists = lists;

@@ -8,14 +8,28 @@ use Rattle.std.proofs.lemmas.List.Sums.{AllPass-from_list_all, list_all-from_All
 use Rattle.std.specs.{Cmp.both_ways, List.{list_all, flat_map, sum_by}}
 use Rattle.lc_level.specs.{FaultLines.FaultLineModel, Level.{FileLineModel, SkippedLineModel}}
 use Rattle.lc_reports.proofs.Uniting.{united_permuted, united_with}
-use Rattle.lc_reports.specs.Joined.{IsJoined, IsUnited, all_faults, all_files, all_rows, all_skipped, all_totals, if_wanted, shared_lists}
+use Rattle.lc_reports.specs.Joined.{IsJoined, IsUnited, all_faults, all_files, all_rows, all_skipped, if_wanted}
+use Rattle.lc_reports.specs.Joined.{shared_columns, shared_lists}
+use Rattle.lc_sheet.specs.declared.table_options.Columns.{Columns}
 use Rattle.lc_reports.specs.{Laws.{JoinGroupLaw, JoinOrderLaw}, LineOrder.{fault_cmp, skipped_cmp}}
 use Rattle.lc_walk.proofs.{MovedLists.lists_moved, RowSums.{has_both, has_further, has_permuted, has_same, same_sums}}
 use Rattle.lc_walk.specs.{TallyRows.{AddsUp, TallyRowModel}, declared.{options.ReportLists.ReportLists, report.Report.Report}}
 use Rattle.lc_walk.specs.declared.tally.sums.Sums.{Sums}
 
+same_columns : (a b : Columns) → a.dir ≡ b.dir → a.ext ≡ b.ext → a.text ≡ b.text → a.eol ≡ b.eol → a ≡ b
+same_columns a b d x t e = λ i. record { dir = d i; ext = x i; text = t i; eol = e i }
+
 same_lists : (a b : ReportLists) → a.files ≡ b.files → a.left_out ≡ b.left_out → a ≡ b
 same_lists a b f l = λ i. record { files = f i; left_out = l i }
+
+-- some sums of each report, added up
+abbrev all_sums : (Report → Sums) → List Report → Sums
+all_sums of rs = record {
+  files = sum_by (λ (r : Report). (of r).files) rs;
+  lines = sum_by (λ (r : Report). (of r).lines) rs;
+  blank = sum_by (λ (r : Report). (of r).blank) rs;
+  bytes = sum_by (λ (r : Report). (of r).bytes) rs;
+}
 
 if_moved : {X : Type 0} (wanted : Bool) (xs ys : List X) → IsPermutation xs ys → IsPermutation (if_wanted wanted xs) (if_wanted wanted ys)
 if_moved true xs ys moved = moved
@@ -36,15 +50,19 @@ all_moved p rs moved m = both_ways (list_all p rs) (list_all p moved)
     (λ e. list_all-from_AllPass p rs (All-permutation (λ r. p r ≡ true) moved rs (IsPermutation-sym rs moved m)
     (AllPass-from_list_all p moved e)))
 
-totals_moved : (rs moved : List Report) → IsPermutation rs moved → all_totals rs ≡ all_totals moved
-totals_moved rs moved m =
+sums_moved : (of : Report → Sums) (rs moved : List Report) → IsPermutation rs moved → all_sums of rs ≡ all_sums of moved
+sums_moved of rs moved m =
     let sum : (f : Report → ℕ) → sum_by f rs ≡ sum_by f moved = λ f. sym (sum_by-IsPermutation f rs moved m) in
-    same_sums _ _ (sum (λ r. r.totals.files)) (sum (λ r. r.totals.lines)) (sum (λ r. r.totals.blank)) (sum (λ r. r.totals.bytes))
+    same_sums _ _ (sum (λ r. (of r).files)) (sum (λ r. (of r).lines)) (sum (λ r. (of r).blank)) (sum (λ r. (of r).bytes))
 
 pub join_order : JoinOrderLaw
 join_order rs moved r m is = record {
   rows = adds_moved (all_rows rs) (all_rows moved) r.rows.items (lists_moved (λ (x : Report). x.rows.items) rs moved m) is.rows;
-  totals = is.totals ∙ totals_moved rs moved m;
+  columns = is.columns ∙ same_columns (shared_columns rs) (shared_columns moved) refl (all_moved (λ x. x.columns.ext) rs moved m)
+      (all_moved (λ x. x.columns.text) rs moved m) (all_moved (λ x. x.columns.eol) rs moved m);
+  totals = is.totals ∙ sums_moved (λ x. x.totals) rs moved m;
+  text = is.text ∙ sums_moved (λ x. x.classes.text) rs moved m;
+  binary = is.binary ∙ sums_moved (λ x. x.classes.binary) rs moved m;
   directories = is.directories ∙ sym (sum_by-IsPermutation (λ (x : Report). x.directories) rs moved m);
   entries = is.entries ∙ sym (sum_by-IsPermutation (λ (x : Report). x.entries) rs moved m);
   lists = is.lists ∙ same_lists (shared_lists rs) (shared_lists moved) (all_moved (λ x. x.lists.files) rs moved m)
@@ -82,11 +100,17 @@ module _ (part others : List Report) (one r : Report) (first : IsJoined part one
         order = added.order;
       })
 
-  totals_of_parts : r.totals ≡ all_totals (part ++ others)
-  totals_of_parts = is.totals ∙ same_sums _ _ (sums_of_parts (λ x. x.totals.files) (ap (λ (s : Sums). s.files) first.totals))
-      (sums_of_parts (λ x. x.totals.lines) (ap (λ (s : Sums). s.lines) first.totals))
-      (sums_of_parts (λ x. x.totals.blank) (ap (λ (s : Sums). s.blank) first.totals))
-      (sums_of_parts (λ x. x.totals.bytes) (ap (λ (s : Sums). s.bytes) first.totals))
+  sums_of_all : (of : Report → Sums) → of one ≡ all_sums of part → all_sums of (one ∷ others) ≡ all_sums of (part ++ others)
+  sums_of_all of same = same_sums _ _ (sums_of_parts (λ x. (of x).files) (ap (λ (s : Sums). s.files) same))
+      (sums_of_parts (λ x. (of x).lines) (ap (λ (s : Sums). s.lines) same))
+      (sums_of_parts (λ x. (of x).blank) (ap (λ (s : Sums). s.blank) same))
+      (sums_of_parts (λ x. (of x).bytes) (ap (λ (s : Sums). s.bytes) same))
+
+  columns_of_parts : r.columns ≡ shared_columns (part ++ others)
+  columns_of_parts = is.columns ∙ same_columns (shared_columns (one ∷ others)) (shared_columns (part ++ others)) refl
+      (all_of_parts (λ x. x.columns.ext) (ap (λ (c : Columns). c.ext) first.columns))
+      (all_of_parts (λ x. x.columns.text) (ap (λ (c : Columns). c.text) first.columns))
+      (all_of_parts (λ x. x.columns.eol) (ap (λ (c : Columns). c.eol) first.columns))
 
   shared_of_parts : r.lists ≡ shared_lists (part ++ others)
   shared_of_parts = is.lists ∙ same_lists (shared_lists (one ∷ others)) (shared_lists (part ++ others))
@@ -132,7 +156,10 @@ module _ (part others : List Report) (one r : Report) (first : IsJoined part one
   grouped : IsJoined (part ++ others) r
   grouped = record {
     rows = rows_of_parts;
-    totals = totals_of_parts;
+    columns = columns_of_parts;
+    totals = is.totals ∙ sums_of_all (λ x. x.totals) first.totals;
+    text = is.text ∙ sums_of_all (λ x. x.classes.text) first.text;
+    binary = is.binary ∙ sums_of_all (λ x. x.classes.binary) first.binary;
     directories = is.directories ∙ sums_of_parts (λ x. x.directories) first.directories;
     entries = is.entries ∙ sums_of_parts (λ x. x.entries) first.entries;
     lists = shared_of_parts;

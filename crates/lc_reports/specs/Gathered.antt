@@ -1,6 +1,8 @@
 -- What is gathered from several reports before they are joined.
 use Rattle.std.specs.Prelude.{◌≡◌, ◌+◌, ◌<◌, ◌^◌, List, ◌++◌}
-use Rattle.lc_reports.specs.Joined.{all_rows, all_files, all_faults, all_skipped, all_totals, all_directories, all_entries, if_wanted}
+use Rattle.lc_reports.specs.Joined.{all_rows, all_files, all_faults, all_skipped, all_binary, all_text, all_totals, all_directories}
+use Rattle.lc_reports.specs.Joined.{all_entries}
+use Rattle.lc_reports.specs.Joined.{if_wanted}
 use Rattle.lc_reports.specs.declared.gathered.{Gathered.Gathered, Numbers.Numbers}
 use Rattle.lc_walk.specs.{Sums.{IsInRange, no_files, plus}, TallyRows.sums_of_rows, declared.options.ReportLists.ReportLists}
 use Rattle.lc_walk.specs.declared.report.Report.{Report}
@@ -8,13 +10,15 @@ use Rattle.lc_walk.specs.declared.report.Report.{Report}
 -- ---- numbers
 
 abbrev pub no_numbers : Numbers
-no_numbers = record { rows = no_files; totals = no_files; directories = 0; entries = 0 }
+no_numbers = record { rows = no_files; totals = no_files; text = no_files; binary = no_files; directories = 0; entries = 0 }
 
 -- these numbers with the numbers of a report added
 abbrev pub numbers_with : Numbers → Report → Numbers
 numbers_with n r = record {
   rows = plus n.rows (sums_of_rows r.rows.items);
   totals = plus n.totals r.totals;
+  text = plus n.text r.classes.text;
+  binary = plus n.binary r.classes.binary;
   directories = n.directories + r.directories;
   entries = n.entries + r.entries;
 }
@@ -23,6 +27,8 @@ abbrev pub numbers_of : List Report → Numbers
 numbers_of rs = record {
   rows = sums_of_rows (all_rows rs);
   totals = all_totals rs;
+  text = all_text rs;
+  binary = all_binary rs;
   directories = all_directories rs;
   entries = all_entries rs;
 }
@@ -31,6 +37,8 @@ numbers_of rs = record {
 pub record NumbersFit (n : Numbers) : Type 0 where
   pub rows : IsInRange n.rows
   pub totals : IsInRange n.totals
+  pub text : IsInRange n.text
+  pub binary : IsInRange n.binary
   pub directories : n.directories < 2 ^ 64
   pub entries : n.entries < 2 ^ 64
 

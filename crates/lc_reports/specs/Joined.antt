@@ -1,9 +1,11 @@
 -- The report that several reports make when they are joined.
-use Rattle.std.specs.{Prelude.{◌≡◌, ℕ, ◌<◌, ◌^◌, Bool, List, cond, [], flat_map, sum_by, Result, MatchResult}, List.{Contains, list_all}}
+use Rattle.std.specs.Prelude.{◌≡◌, ℕ, ◌<◌, ◌^◌, Bool, List, cond, [], flat_map, sum_by, None, Result, MatchResult}
+use Rattle.std.specs.List.{Contains, list_all}
 use Rattle.std.specs.{List.Sorted.{IsPermutation, IsSortedByKey, IsStrictlySortedBy}, declared.cmp.Ordering.Ordering}
 use Rattle.lc_level.specs.{FaultLines.FaultLineModel, Level.{FileLineModel, SkippedLineModel}}
 use Rattle.lc_reports.specs.{LineOrder.{fault_cmp, skipped_cmp}, declared.join_fault.JoinFault.{JoinFault, TheVariants.{Memory, TooLarge}}}
 use Rattle.lc_tree.specs.ByteOrder.{bytes_cmp}
+use Rattle.lc_sheet.specs.declared.table_options.Columns.{Columns}
 use Rattle.lc_walk.specs.{Sums.IsInRange, TallyRows.{TallyRowModel, AddsUp, sums_of_rows}, declared.options.ReportLists.ReportLists}
 use Rattle.lc_walk.specs.declared.{report.Report.Report, tally.sums.Sums.Sums}
 
@@ -29,11 +31,36 @@ all_totals rs = record {
   bytes = sum_by (λ (r : Report). r.totals.bytes) rs;
 }
 
+abbrev pub all_text : List Report → Sums
+all_text rs = record {
+  files = sum_by (λ (r : Report). r.classes.text.files) rs;
+  lines = sum_by (λ (r : Report). r.classes.text.lines) rs;
+  blank = sum_by (λ (r : Report). r.classes.text.blank) rs;
+  bytes = sum_by (λ (r : Report). r.classes.text.bytes) rs;
+}
+
+abbrev pub all_binary : List Report → Sums
+all_binary rs = record {
+  files = sum_by (λ (r : Report). r.classes.binary.files) rs;
+  lines = sum_by (λ (r : Report). r.classes.binary.lines) rs;
+  blank = sum_by (λ (r : Report). r.classes.binary.blank) rs;
+  bytes = sum_by (λ (r : Report). r.classes.binary.bytes) rs;
+}
+
 abbrev pub all_directories : List Report → ℕ
 all_directories rs = sum_by (λ (r : Report). r.directories) rs
 
 abbrev pub all_entries : List Report → ℕ
 all_entries rs = sum_by (λ (r : Report). r.entries) rs
+
+-- the columns that the rows of each of these reports are grouped by
+abbrev pub shared_columns : List Report → Columns
+shared_columns rs = record {
+  dir = None;
+  ext = list_all (λ (r : Report). r.columns.ext) rs;
+  text = list_all (λ (r : Report). r.columns.text) rs;
+  eol = list_all (λ (r : Report). r.columns.eol) rs;
+}
 
 -- the optional lists that each of these reports has
 abbrev pub shared_lists : List Report → ReportLists
@@ -54,11 +81,15 @@ pub record IsUnited {X : Type 0} (cmp : X → X → Ordering) (xs united : List 
   pub given : (x : X) → Contains united x → Contains xs x
   pub order : IsStrictlySortedBy cmp united
 
--- the joined report has a row for each key, with the sums over all rows that have the key; the sums of all numbers; each error once; and if
--- each report has these lists, all files, in the order of their paths, and each skipped entry once, in order
+-- the joined report has a row for each key, with the sums over all rows that have the key; the columns that each report has; the sums of
+-- all numbers; each error once; and if each report has these lists, all files, in the order of their paths, and each skipped entry once, in
+-- order
 pub record IsJoined (rs : List Report) (r : Report) : Type 0 where
   pub rows : AddsUp (all_rows rs) r.rows.items
+  pub columns : r.columns ≡ shared_columns rs
   pub totals : r.totals ≡ all_totals rs
+  pub text : r.classes.text ≡ all_text rs
+  pub binary : r.classes.binary ≡ all_binary rs
   pub directories : r.directories ≡ all_directories rs
   pub entries : r.entries ≡ all_entries rs
   pub lists : r.lists ≡ shared_lists rs
@@ -71,6 +102,8 @@ pub record IsJoined (rs : List Report) (r : Report) : Type 0 where
 pub record Fits (rs : List Report) : Type 0 where
   pub rows : IsInRange (sums_of_rows (all_rows rs))
   pub totals : IsInRange (all_totals rs)
+  pub text : IsInRange (all_text rs)
+  pub binary : IsInRange (all_binary rs)
   pub directories : all_directories rs < 2 ^ 64
   pub entries : all_entries rs < 2 ^ 64
 

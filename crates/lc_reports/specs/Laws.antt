@@ -22,7 +22,9 @@ HasFile row = 0 < row.sums.files
 -- both reports are the same, except for the order of their files
 pub record IsSame (r s : Report) : Type 0 where
   pub rows : r.rows.items ≡ s.rows.items
+  pub columns : r.columns ≡ s.columns
   pub totals : r.totals ≡ s.totals
+  pub classes : r.classes ≡ s.classes
   pub directories : r.directories ≡ s.directories
   pub entries : r.entries ≡ s.entries
   pub lists : r.lists ≡ s.lists

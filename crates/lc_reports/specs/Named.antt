@@ -49,7 +49,9 @@ named_skipped name l = record { path = named_path name l.path; kind = l.kind; re
 -- numbers
 pub record IsNamed (name : List ℕ) (r named : Report) : Type 0 where
   pub rows : named.rows.items ≡ r.rows.items
+  pub columns : named.columns ≡ r.columns
   pub totals : named.totals ≡ r.totals
+  pub classes : named.classes ≡ r.classes
   pub directories : named.directories ≡ r.directories
   pub entries : named.entries ≡ r.entries
   pub lists : named.lists ≡ r.lists

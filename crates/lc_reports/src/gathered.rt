@@ -2,10 +2,11 @@
 ghost use Rattle.std.specs.Prelude.{◌≡◌, IfOk, MatchOption, OnOk};
 ghost use Rattle.std.specs.List.{list_all};
 ghost use Rattle.lc_reports.specs.Gathered.{Adds, IsGathered, NumbersFit, no_numbers, numbers_of, numbers_with};
-ghost use Rattle.lc_reports.specs.Joined.{shared_lists};
+ghost use Rattle.lc_reports.specs.Joined.{shared_columns, shared_lists};
 ghost use Rattle.lc_walk.specs.Sums.{IsInRange, plus};
 ghost use Rattle.lc_walk.specs.TallyRows.{sums_of_rows};
 
+use lc_sheet::Columns;
 use lc_walk::{FaultLine, FileLine, Report, ReportLists, SkippedLine, Sums, TallyRow};
 use std::alloc::{AllocError, Global};
 
@@ -28,6 +29,8 @@ pub(crate) struct Numbers {
     // Tested with the other sums before anything is allocated, so that a join fails for lack of memory only if no sum is too large.
     rows: Sums,
     pub(crate) totals: Sums,
+    pub(crate) text: Sums,
+    pub(crate) binary: Sums,
     pub(crate) directories: u64,
     pub(crate) entries: u64,
 }
@@ -39,19 +42,22 @@ impl Numbers {
         Numbers {
             rows: Sums::none(),
             totals: Sums::none(),
+            text: Sums::none(),
+            binary: Sums::none(),
             directories: 0,
             entries: 0,
         }
     }
 
     /// Returns these numbers with the numbers of a report added, or `None` if a sum does not fit its type.
-    #[tactic(auto, using(crate::proofs::NumbersInTurn::same_numbers))]
     fn with(self, report: &Report) -> Option<Numbers>
         ensures { MatchOption result (NumbersFit (numbers_with self report.now) → ⊥) (λ n. n ≡ numbers_with self report.now) }
     {
         Some(Numbers {
             rows: with_rows(self.rows, &report.rows)?,
             totals: self.totals.checked_add(report.totals)?,
+            text: self.text.checked_add(report.classes.text)?,
+            binary: self.binary.checked_add(report.classes.binary)?,
             directories: self.directories.checked_add(report.directories)?,
             entries: self.entries.checked_add(report.entries)?,
         })
@@ -68,6 +74,36 @@ impl Numbers {
             rest = others;
         }
         Some(numbers)
+    }
+}
+
+fn have_ext(reports: &[Report]) -> bool
+    ensures { result ≡ list_all (λ r. r.columns.ext) reports.now }
+{
+    reports.iter().all(|report| report.columns.ext)
+}
+
+fn have_text(reports: &[Report]) -> bool
+    ensures { result ≡ list_all (λ r. r.columns.text) reports.now }
+{
+    reports.iter().all(|report| report.columns.text)
+}
+
+fn have_eol(reports: &[Report]) -> bool
+    ensures { result ≡ list_all (λ r. r.columns.eol) reports.now }
+{
+    reports.iter().all(|report| report.columns.eol)
+}
+
+/// Returns the columns that the rows of each of these reports are grouped by.
+pub(crate) fn shared_columns(reports: &[Report]) -> Columns
+    ensures { result ≡ shared_columns reports.now }
+{
+    Columns {
+        dir: None,
+        ext: have_ext(reports),
+        text: have_text(reports),
+        eol: have_eol(reports),
     }
 }
 

@@ -2,10 +2,10 @@
 ghost use Rattle.lc_reports.specs.Joined.{IsUnited, Joins};
 ghost use Rattle.lc_reports.specs.LineOrder.{fault_cmp, skipped_cmp};
 
-use crate::gathered::{Gathered, Numbers, shared_lists};
+use crate::gathered::{Gathered, Numbers, shared_columns, shared_lists};
 use crate::join_fault::JoinFault;
 use crate::line_order::{compare_faults, compare_skipped};
-use lc_walk::{FaultLine, Report, SkippedLine, added_up, sort_lines};
+use lc_walk::{ClassSums, FaultLine, Report, SkippedLine, added_up, sort_lines};
 use std::alloc::Global;
 
 /// Sorts errors. Of several errors with the same path and word, keeps only one.
@@ -24,9 +24,9 @@ fn unite_skipped(skipped: &mut Vec<SkippedLine>)
     skipped.dedup_by(|a, b| compare_skipped(a, b).is_eq());
 }
 
-/// Joins several reports into one. It adds up the reports' rows and numbers. The joined report lists counted files only if each report
-/// lists its counted files, and skipped entries only if each report lists its skipped entries. An error or a skipped entry appears once if
-/// several reports have it with the same fields.
+/// Joins several reports into one. It adds up the reports' rows and numbers. The joined report has the columns that the rows of each report
+/// are grouped by. It lists counted files only if each report lists its counted files, and skipped entries only if each report lists its
+/// skipped entries. An error or a skipped entry appears once if several reports have it with the same fields.
 ///
 /// The time is that of sorting the files, errors and skipped entries of all reports. The call allocates memory for the lists, but not for
 /// paths. Before any allocation, it finds out whether a sum is too large.
@@ -37,6 +37,7 @@ fn unite_skipped(skipped: &mut Vec<SkippedLine>)
 pub fn joined(alloc: Global, reports: Vec<Report>) -> Result<Report, JoinFault>
     ensures { Joins reports.items result }
 {
+    let columns = shared_columns(&reports);
     let lists = shared_lists(&reports);
     let Some(numbers) = Numbers::of(&reports) else {
         return Err(JoinFault::TooLarge);
@@ -55,7 +56,12 @@ pub fn joined(alloc: Global, reports: Vec<Report>) -> Result<Report, JoinFault>
     unite_skipped(&mut skipped);
     Ok(Report {
         rows,
+        columns,
         totals: numbers.totals,
+        classes: ClassSums {
+            text: numbers.text,
+            binary: numbers.binary,
+        },
         directories: numbers.directories,
         entries: numbers.entries,
         lists,

@@ -137,7 +137,9 @@ pub fn named(alloc: Global, name: &[u8], report: Report) -> Result<Report, Alloc
 {
     let Report {
         rows,
+        columns,
         totals,
+        classes,
         directories,
         entries,
         lists,
@@ -147,7 +149,9 @@ pub fn named(alloc: Global, name: &[u8], report: Report) -> Result<Report, Alloc
     } = report;
     Ok(Report {
         rows,
+        columns,
         totals,
+        classes,
         directories,
         entries,
         lists,

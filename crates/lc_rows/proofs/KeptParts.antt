@@ -52,7 +52,9 @@ module _ (cs ds : List ConditionModel) (same : IsPermutation cs ds) where
   part_permuted r part is = record {
     files = is.files ∙ ap (λ (p : FileLineModel → Bool). filter p r.files.items) same_files;
     rows = rows_permuted r part is.rows;
+    columns = is.columns;
     totals = is.totals ∙ ap (λ b. kept_totals b part.files.items part.rows.items) same_need;
+    classes = is.classes;
     directories = is.directories;
     entries = is.entries;
     lists = is.lists;

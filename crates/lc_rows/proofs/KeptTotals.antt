@@ -5,9 +5,10 @@ use Rattle.std.specs.List.Sorted.{IsStrictlySortedBy}
 use Rattle.lc_level.specs.Level.{FileLineModel}
 use Rattle.lc_sheet.specs.Conditions.{ConditionModel, TestModel, compared, is_number, is_on_number, meets, needs_files, none_of, one_of}
 use Rattle.lc_sheet.specs.{Values.{ValueModel, blank, path}, declared.column.Column.Column}
-use Rattle.lc_walk.proofs.{Keys.equal_if, ReportTotals.{filter-map, tally_sums}}
-use Rattle.lc_walk.specs.{Key.{Key, key_cmp, same_key}, ReportTotals.{TotalsAddUp, counted_line}, Sums.no_files, Tally.CountedFile}
+use Rattle.lc_walk.proofs.{Classes.both_are_all, Keys.equal_if, ReportTotals.{filter-map, tally_sums}}
+use Rattle.lc_walk.specs.{Key.{Key, key_cmp, same_key}, ReportTotals.{TotalsAddUp, counted_line}, Sums.{no_files, plus}, Tally.CountedFile}
 use Rattle.lc_walk.specs.{Tally.{IsTally, files_with, key_of, sums_of_files}, TallyRows.{TallyRowModel, row_with, rows_with, sums_of_rows}}
+use Rattle.lc_walk.specs.{Classes.classes_of, declared.tally.classes.ClassSums.ClassSums}
 use Rattle.lc_walk.specs.declared.{options.ReportLists.ReportLists, report.Report.Report}
 use Rattle.lc_rows.proofs.SameKeys.{exact_keys}
 use Rattle.lc_rows.specs.Kept.{AreKeptRows, IsPart, file_meets, holds_all, kept_totals, row_meets, value_of_file, value_of_row}
@@ -112,14 +113,21 @@ module _ (cs : List ConditionModel) (none : needs_files cs ≡ false) where
 
 -- ---- the part of a report
 
+-- the sums over its rows are those over both classes
+by_class : (r : Report) → r.classes ≡ classes_of r.rows.items → sums_of_rows r.rows.items ≡ plus r.classes.text r.classes.binary
+by_class r are = sym (both_are_all r.rows.items) ∙ ap (λ (c : ClassSums). plus c.text c.binary) (sym are)
+
 part_adds_up : (b : Bool) (cs : List ConditionModel) (r part : Report) → needs_files cs ≡ b → TotalsAddUp r → IsPart cs r part
     → TotalsAddUp part
 part_adds_up true cs r part need adds is =
     let tally : IsTally (map counted_line part.files.items) part.rows.items =
     subst (λ (b : Bool). AreKeptRows b cs r part.files.items part.rows.items) need is.rows in
     let totals : part.totals ≡ sums_of_files (map counted_line part.files.items) =
-    is.totals ∙ ap (λ b. kept_totals b part.files.items part.rows.items) need in record {
-      rows = totals ∙ sym (tally_sums (map counted_line part.files.items) part.rows.items tally);
+    is.totals ∙ ap (λ b. kept_totals b part.files.items part.rows.items) need in
+    let rows : part.totals ≡ sums_of_rows part.rows.items =
+    totals ∙ sym (tally_sums (map counted_line part.files.items) part.rows.items tally) in record {
+      rows = rows;
+      classes = rows ∙ by_class part is.classes;
       files = λ asked. totals;
       tally = λ asked. tally;
     }
@@ -133,6 +141,7 @@ part_adds_up false cs r part need adds is =
     (subst (λ (l : List FileLineModel). IsTally (map counted_line l) (filter (row_meets cs) r.rows.items)) (sym is.files)
     (tally_kept cs need r.files.items r.rows.items (adds.tally (sym (ap (λ (l : ReportLists). l.files) is.lists) ∙ asked)))) in record {
       rows = totals;
+      classes = totals ∙ by_class part is.classes;
       files = λ asked. totals ∙ tally_sums (map counted_line part.files.items) part.rows.items (tally asked);
       tally = tally;
     }

@@ -11,8 +11,6 @@ pub mod TreeParts
 pub mod Above
 pub mod ChildrenLaw
 pub mod ViewLaws
-pub mod ClassLaw
-pub mod SumsInRange
 pub mod KeptParts
 pub mod KeptTotals
 pub mod SheetMade

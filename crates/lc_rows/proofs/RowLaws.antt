@@ -6,10 +6,11 @@ use Rattle.std.specs.declared.cmp.Ordering.TheVariants.{Less}
 use Rattle.lc_sheet.specs.declared.{table_options.Columns.Columns, column.Number.Number}
 use Rattle.lc_walk.proofs.{ReportTotals.sum_by-map, RowSums.same_sums}
 use Rattle.lc_walk.specs.{Key.{Key, key_cmp}, Sums.one_file, TallyRows.{TallyRowModel, IsInOrder}, declared.tally.sums.Sums.Sums}
-use Rattle.lc_rows.specs.{Laws.{PermutationLaw, TotalsLaw, WholeLaw, all_columns, totals_of}, RowKeys.{RowKey, ShownRowModel, row_key}}
+use Rattle.lc_rows.specs.{Laws.{PermutationLaw, TotalsLaw, WholeLaw, totals_of}, RowKeys.{RowKey, ShownRowModel, row_key}}
 use Rattle.lc_rows.specs.{RowKeys.{row_key_cmp, rows_within, sums_of_shown}, ShownRows.{AreAddedUp, AreSorted, keeps_all, part_of_file}}
 use Rattle.lc_rows.specs.ShownRows.{part_of_row, parts_in, parts_of}
 use Rattle.lc_level.specs.Level.{FileLineModel}
+use Rattle.lc_walk.specs.AllColumns.{all_columns}
 
 -- sorted or not, the rows are the same
 pub moved : (sort : Option Number) (rs sorted : List ShownRowModel) → AreSorted sort rs sorted → IsPermutation rs sorted

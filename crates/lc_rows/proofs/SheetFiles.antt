@@ -36,7 +36,7 @@ paths_listed true format form top fs section is =
 paths_listed false format form top fs section is = absurd (cc is)
 
 pub sheet_files_law : SheetFilesLaw
-sheet_files_law options r classes s section sheet there =
+sheet_files_law options r s section sheet there =
     let view = view_of options.top sheet.has.rows (listed_files options.files sheet.files) in (
       sheet.files,
       sheet.are_files,

@@ -11,11 +11,12 @@ use Rattle.lc_walk.specs.{Sums.{no_files, one_file, plus}, TallyRows.TallyRowMod
 use Rattle.lc_rows.specs.{Kinds.{NamedSumsModel, row_value, sums_value}, Laws.totals_of, RowKeys.{ShownRowModel, sums_of_shown}}
 use Rattle.lc_rows.specs.SheetColumns.{key_columns, keeps_columns, number_columns, row_columns, share_columns, sums_columns}
 use Rattle.lc_rows.specs.SheetLaws.{SheetClassesLaw, SheetTotalsLaw, column_sum, first_number, is_number, number_at, number_of}
-use Rattle.lc_rows.specs.{SheetLaws.{numbers_in, same_number}, Sheets.{form_of, listed_files, others_lines, section_of, sheet_among}}
-use Rattle.lc_rows.specs.{ShownRows.number_in, ShownFiles.AreFilesSorted, Views.view_of, declared.classes.ClassSums.ClassSums}
+use Rattle.lc_rows.specs.{SheetLaws.{numbers_in, same_number}, Sheets.{form_of, listed_files, others_lines, section_of, sheet_of}}
+use Rattle.lc_rows.specs.{ShownRows.number_in, ShownFiles.AreFilesSorted, Views.view_of}
 use Rattle.lc_rows.proofs.ViewLaws.{cut_totals_law, sorted_files_law}
 use Rattle.lc_level.specs.Level.{FileLineModel}
 use Rattle.lc_sheet.specs.declared.column.Column.TheVariants as column
+use Rattle.lc_walk.specs.declared.tally.classes.ClassSums.{ClassSums}
 
 -- ---- the column of a number
 
@@ -189,7 +190,7 @@ sorted_totals (Some k) sort rs fs sorted are =
 -- ---- the laws
 
 pub sheet_totals_law : SheetTotalsLaw
-sheet_totals_law options r classes s totals sheet n =
+sheet_totals_law options r s totals sheet n =
     let rows = sheet.has.rows in
     let files = sheet.files in
     let view = view_of options.top rows (listed_files options.files files) in
@@ -201,29 +202,29 @@ sheet_totals_law options r classes s totals sheet n =
     let same : plus (sums_of_shown view.rows) (unwrap_or view.others no_files) ≡ r.totals =
     cut_totals_law options.by options.sort options.top r.rows.items files rows (listed_files options.files files) sheet.has.are_rows
     ∙ sorted_totals options.by.dir options.sort r.rows.items r.files.items files sheet.are_files ∙ sym totals in
-    let shown : column_sum n (sheet_among options r classes view).rows + column_sum n (sheet_among options r classes view).others
-    ≡ first_number n (sheet_among options r classes view).totals =
+    let shown : column_sum n (sheet_of options r view).rows + column_sum n (sheet_of options r view).others
+    ≡ first_number n (sheet_of options r view).totals =
     ap₂ (λ a b. a + b) (rows_sum n form columns has view.rows) (others_sum n form sums of_sums view.others)
     ∙ sym (number_plus n (sums_of_shown view.rows) (unwrap_or view.others no_files)) ∙ ap (number_in n) same
     ∙ sym (sums_line n form sums of_sums (total_line r.totals)) in
     subst (λ (t : SheetModel). column_sum n t.rows + column_sum n t.others ≡ first_number n t.totals) (sym sheet.has.is) shown
 
 pub sheet_classes_law : SheetClassesLaw
-sheet_classes_law options r classes s totals sheet n =
+sheet_classes_law options r s totals sheet n =
     let view = view_of options.top sheet.has.rows (listed_files options.files sheet.files) in
     let form = form_of options r.totals view.rows in
     let columns = row_columns options in
     let sums = sums_columns options.format columns in
     let of_sums = sums_have n options.format columns (rows_have n options) in
-    let text = classes.text in
-    let binary = classes.binary in
+    let text = r.classes.text in
+    let binary = r.classes.binary in
     let total : number_in n r.totals ≡ number_in n text + number_in n binary =
     ap (number_in n) totals ∙ number_plus n text binary in
     let line = sums_line n form sums of_sums in
-    let shown : numbers_in n (sheet_among options r classes view).totals
+    let shown : numbers_in n (sheet_of options r view).totals
     ≡ (number_in n text + number_in n binary) ∷ number_in n text ∷ number_in n binary ∷ [] =
     ap₂ (λ a b. a ∷ b) (line (total_line r.totals) ∙ total)
-    (ap₂ (λ a b. a ∷ b ∷ []) (line (text_line classes)) (line (binary_line classes))) in (
+    (ap₂ (λ a b. a ∷ b ∷ []) (line (text_line r.classes)) (line (binary_line r.classes))) in (
       number_in n text,
       number_in n binary,
       subst (λ (t : SheetModel). numbers_in n t.totals

@@ -1,17 +1,16 @@
 -- A sheet that is made of parts.
-use Rattle.std.proofs.Common.{◌≡◌, List, refl}
+use Rattle.std.proofs.Common.{◌≡◌, List, nat_lt, refl}
 use Rattle.lc_sheet.specs.declared.{column.Column.Column, form.Form.Form, table_options.TableOptions.TableOptions}
 use Rattle.lc_walk.specs.declared.report.Report.{Report}
 use Rattle.lc_rows.specs.{Kinds.NamedSumsModel, RowKeys.ShownRowModel, SheetColumns.{file_columns, row_columns}, Sheets.form_of}
-use Rattle.lc_rows.specs.{Sheets.{others_lines, sheet_among, sheet_with, totals_lines}, Views.ViewModel}
-use Rattle.lc_rows.specs.declared.classes.ClassSums.{ClassSums}
+use Rattle.lc_rows.specs.{Sheets.{others_lines, sheet_of, sheet_with, totals_lines}, Views.ViewModel}
 use Rattle.lc_level.specs.Level.{FileLineModel}
 
 -- where each part is that of a view, the sheet is that of the view
-pub made : (options : TableOptions) (r : Report) (classes : ClassSums) (v : ViewModel) (form : Form)
+pub made : (options : TableOptions) (r : Report) (v : ViewModel) (form : Form)
     (columns of_files : List Column) (rows : List ShownRowModel) (others totals : List NamedSumsModel) (files : List FileLineModel)
     → form ≡ form_of options r.totals rows → columns ≡ row_columns options → of_files ≡ file_columns options.format options.by
-    → rows ≡ v.rows → others ≡ others_lines v.others → totals ≡ totals_lines r.totals classes → files ≡ v.files
+    → rows ≡ v.rows → others ≡ others_lines v.others → totals ≡ totals_lines r.totals r.classes → files ≡ v.files
     → sheet_with (record {
       format = options.format;
       form = form;
@@ -20,11 +19,11 @@ pub made : (options : TableOptions) (r : Report) (classes : ClassSums) (v : View
       rows = rows;
       others = others;
       totals = totals;
-      some_binary = classes.some_binary;
+      some_binary = nat_lt 0 r.classes.binary.files;
       lists_files = options.files;
       files = files;
     }) r
-    ≡ sheet_among options r classes v
-made options r classes v form columns of_files rows others totals files is_form are_columns file_columns_are are_rows are_others are_totals
+    ≡ sheet_of options r v
+made options r v form columns of_files rows others totals files is_form are_columns file_columns_are are_rows are_others are_totals
     are_files =
     rw (is_form, are_columns, file_columns_are, are_rows, are_others, are_totals, are_files) refl

@@ -9,12 +9,13 @@ use Rattle.lc_walk.specs.{Sums.{no_files, plus}, declared.{report.Report.Report,
 use Rattle.lc_rows.specs.Kinds.{NamedSumsModel, bar_value, directory_value, extension_value, kept_value, named_in, row_value, share_value}
 use Rattle.lc_rows.specs.{Kinds.{sums_value, text_value}, RowKeys.{ShownRowModel, sums_of_shown}, SheetColumns.{row_columns, sums_columns}}
 use Rattle.lc_rows.specs.{SheetLaws.{ClassPartsLaw, HasClassTotals, IsSectionWithin, IsWithin, SheetPartsLaw}, Sheets.form_of}
-use Rattle.lc_rows.specs.Sheets.{listed_files, others_lines, section_of, share_number, shares_of, sheet_among, totals_lines}
-use Rattle.lc_rows.specs.{ShownRows.number_in, Views.{first_of, view_of}, declared.classes.ClassSums.ClassSums}
+use Rattle.lc_rows.specs.Sheets.{listed_files, others_lines, section_of, share_number, shares_of, sheet_of, totals_lines}
+use Rattle.lc_rows.specs.{ShownRows.number_in, Views.{first_of, view_of}}
 use Rattle.lc_rows.proofs.{RowLaws.totals_law, RowParts.{first_are, rows_within_largest, rows_within_sum}, SheetLawProofs.binary_line}
 use Rattle.lc_rows.proofs.{SheetLawProofs.{number_plus, sorted_totals, text_line, total_line}, ViewLaws.cut_totals_law}
 use Rattle.lc_rules.specs.declared.states.TextState.TheVariants as text
 use Rattle.lc_sheet.specs.declared.column.Column.TheVariants as column
+use Rattle.lc_walk.specs.declared.tally.classes.ClassSums.{ClassSums}
 
 -- ---- values
 
@@ -123,19 +124,19 @@ others_under n rest totals (Some s) whole =
     let all = ap (number_in n) whole in
     All-cons (IsUnder n totals) (record { name = codes "others"; sums = s }) [] (omega arith) (All-nil (IsUnder n totals))
 
-classes_under : (n : Number) (r : Report) (classes : ClassSums) → HasClassTotals r classes
-    → All (IsUnder n r.totals) (totals_lines r.totals classes)
-classes_under n r classes totals =
-    let both = number_plus n classes.text classes.binary in
+classes_under : (n : Number) (r : Report) → HasClassTotals r
+    → All (IsUnder n r.totals) (totals_lines r.totals r.classes)
+classes_under n r totals =
+    let both = number_plus n r.classes.text r.classes.binary in
     let all = ap (number_in n) totals in
-    All-cons (IsUnder n r.totals) (total_line r.totals) (text_line classes ∷ binary_line classes ∷ []) (omega arith)
-    (All-cons (IsUnder n r.totals) (text_line classes) (binary_line classes ∷ []) (omega arith)
-    (All-cons (IsUnder n r.totals) (binary_line classes) [] (omega arith) (All-nil (IsUnder n r.totals))))
+    All-cons (IsUnder n r.totals) (total_line r.totals) (text_line r.classes ∷ binary_line r.classes ∷ []) (omega arith)
+    (All-cons (IsUnder n r.totals) (text_line r.classes) (binary_line r.classes ∷ []) (omega arith)
+    (All-cons (IsUnder n r.totals) (binary_line r.classes) [] (omega arith) (All-nil (IsUnder n r.totals))))
 
 -- ---- the laws
 
 pub sheet_parts_law : SheetPartsLaw
-sheet_parts_law options r classes s totals sheet =
+sheet_parts_law options r s totals sheet =
     let rows = sheet.has.rows in
     let shown = first_of options.top rows in
     let n = share_number options.sort in
@@ -153,7 +154,7 @@ sheet_parts_law options r classes s totals sheet =
     λ i d low. line_within form (get_or shown i d) columns (share_within options.share quota (get_or shown i d).sums (parts i d low))
     (bar_within options.share quota (get_or shown i d).sums (bars i d low)) in
     let files = listed_files options.files sheet.files in
-    let others : IsSectionWithin (sheet_among options r classes (view_of options.top rows files)).others =
+    let others : IsSectionWithin (sheet_of options r (view_of options.top rows files)).others =
     sums_section_within options r.totals shown (sums_columns options.format columns) (others_lines (view_of options.top rows files).others)
     (others_under n (sums_of_shown shown) r.totals (view_of options.top rows files).others
     (cut_totals_law options.by options.sort options.top r.rows.items sheet.files rows files sheet.has.are_rows
@@ -162,8 +163,8 @@ sheet_parts_law options r classes s totals sheet =
     (All-map (λ (line : List ValueModel). All IsWithin line) (line_of (row_value form) columns) shown within, others)
 
 pub class_parts_law : ClassPartsLaw
-class_parts_law options r classes s totals sheet =
+class_parts_law options r s totals sheet =
     let view = view_of options.top sheet.has.rows (listed_files options.files sheet.files) in
     subst (λ (t : SheetModel). IsSectionWithin t.totals) (sym sheet.has.is)
-    (sums_section_within options r.totals view.rows (sums_columns options.format (row_columns options)) (totals_lines r.totals classes)
-    (classes_under (share_number options.sort) r classes totals))
+    (sums_section_within options r.totals view.rows (sums_columns options.format (row_columns options)) (totals_lines r.totals r.classes)
+    (classes_under (share_number options.sort) r totals))

@@ -7,10 +7,10 @@ use Rattle.lc_tree.specs.Trees.{Listings, Contents}
 use Rattle.lc_walk.proofs.{ReportTotals.{ones, report_totals_law, sum_by-map, walked_lists}, RowSums.same_sums}
 use Rattle.lc_walk.specs.{ReportTotals.{TotalsAddUp, counted_line}, Tally.{CountedFile, sums_of_files}}
 use Rattle.lc_walk.specs.declared.{options.{Options.Options, ReportLists.ReportLists}, report.Report.Report}
-use Rattle.lc_rows.proofs.{ClassLaw.classes_law, KeptParts.opposites_law, KeptTotals.kept_totals_law, SheetLawProofs.sheet_classes_law}
+use Rattle.lc_rows.proofs.{KeptParts.opposites_law, KeptTotals.kept_totals_law, SheetLawProofs.sheet_classes_law}
 use Rattle.lc_rows.proofs.{SheetLawProofs.sheet_totals_law, SheetParts.{class_parts_law, sheet_parts_law}}
-use Rattle.lc_rows.specs.{Classes.classes_of, Kept.IsKept, KeptLaws.{WalkedOppositesLaw, tested_sums}, Laws.{sums_of_lines, totals_of}}
-use Rattle.lc_rows.specs.{SheetLaws.{HasClassTotals, HasTotals, WalkedSheetLaw}, WalkedReports.IsOfWalk}
+use Rattle.lc_rows.specs.{Kept.IsKept, KeptLaws.{WalkedOppositesLaw, tested_sums}, Laws.{sums_of_lines, totals_of}}
+use Rattle.lc_rows.specs.{SheetLaws.{HasTotals, WalkedSheetLaw}, WalkedReports.IsOfWalk}
 
 -- files have the sums that a tally counts
 lines_sums : (fs : List FileLineModel) → sums_of_files (map counted_line fs) ≡ sums_of_lines fs
@@ -48,11 +48,9 @@ walked_opposites_law lists gives o c r w listed =
 pub walked_sheet_law : (lists : List ℕ → Listings) (gives : List ℕ → Contents) → WalkedSheetLaw lists gives
 walked_sheet_law lists gives o options r s w listed sheet =
     let adds = walked_adds_up lists gives o r w in
-    let classes = classes_of r.rows.items in
-    let both : HasClassTotals r classes = adds.rows ∙ sym (classes_law r.rows.items) in
     let totals : HasTotals options r = totals_at r adds options.by.dir (λ by. lists_files lists gives o r w (listed by)) in
-    let parts = sheet_parts_law options r classes s totals sheet in record {
-      rows = sheet_totals_law options r classes s totals sheet;
-      classes = sheet_classes_law options r classes s both sheet;
-      shares = record { rows = parts.0; others = parts.1; totals = class_parts_law options r classes s both sheet };
+    let parts = sheet_parts_law options r s totals sheet in record {
+      rows = sheet_totals_law options r s totals sheet;
+      classes = sheet_classes_law options r s adds.classes sheet;
+      shares = record { rows = parts.0; others = parts.1; totals = class_parts_law options r s adds.classes sheet };
     }

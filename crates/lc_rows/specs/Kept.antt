@@ -5,7 +5,8 @@ use Rattle.lc_sheet.specs.declared.{column.Column.{Column, TheVariants.Ext}, for
 use Rattle.lc_level.specs.Level.{FileLineModel}
 use Rattle.lc_walk.specs.{ReportTotals.counted_line, Tally.{IsTally, sums_of_files}, TallyRows.{TallyRowModel, sums_of_rows}}
 use Rattle.lc_walk.specs.declared.{report.Report.Report, tally.sums.Sums.Sums}
-use Rattle.lc_rows.specs.{Kinds.{file_value, row_value}, Laws.all_columns, ShownRows.part_of_row}
+use Rattle.lc_rows.specs.{Kinds.{file_value, row_value}, ShownRows.part_of_row}
+use Rattle.lc_walk.specs.{Classes.classes_of, AllColumns.all_columns}
 
 -- the form in which a line has a value in each column of a report's rows
 abbrev pub whole_form : Form
@@ -36,11 +37,13 @@ AreKeptRows by_file cs r files rows =
 abbrev pub kept_totals : Bool → List FileLineModel → List TallyRowModel → Sums
 kept_totals by_file files rows = if by_file then sums_of_files (map counted_line files) else sums_of_rows rows
 
--- the part of a report that meets some conditions: its files, rows and totals; all else stays as in the report
+-- the part of a report that meets some conditions: its files, rows, totals and sums by class; all else stays as in the report
 pub record IsPart (cs : List ConditionModel) (r part : Report) : Type 0 where
   pub files : part.files.items ≡ filter (file_meets cs) r.files.items
   pub rows : AreKeptRows (needs_files cs) cs r part.files.items part.rows.items
+  pub columns : part.columns ≡ r.columns
   pub totals : part.totals ≡ kept_totals (needs_files cs) part.files.items part.rows.items
+  pub classes : part.classes ≡ classes_of part.rows.items
   pub directories : part.directories ≡ r.directories
   pub entries : part.entries ≡ r.entries
   pub lists : part.lists ≡ r.lists

@@ -5,11 +5,12 @@ use Rattle.lc_sheet.specs.declared.{table_options.Columns.Columns, column.Number
 use Rattle.lc_glob.specs.{Bytes.slash, Path.{is_good_path, segments_of}}
 use Rattle.lc_walk.specs.{Key.{Key, same_key}, Sums.{no_files, one_file, plus}, TallyRows.{TallyRowModel, sums_of_rows, IsInOrder}}
 use Rattle.lc_walk.specs.declared.tally.sums.Sums.{Sums}
-use Rattle.lc_rows.specs.{Classes.{binary_sums, text_sums}, Directories.{directory_of, level_of}, RowKeys.{RowKey, ShownRowModel}}
+use Rattle.lc_rows.specs.{Directories.{directory_of, level_of}, RowKeys.{RowKey, ShownRowModel}}
 use Rattle.lc_rows.specs.{RowKeys.{rows_within, same_row_key, sums_of_shown, sums_over}, ShownFiles.{AreFilesSorted, file_number}}
 use Rattle.lc_rows.specs.{ShownRows.{AreAddedUp, AreShown, AreSummed, file_key, key_in, part_of_row}, TreeRows.{AreTreeRows, is_below}}
 use Rattle.lc_rows.specs.{TreeRows.{is_child, is_in}, Views.{first_of, rest_of, view_of}}
 use Rattle.lc_level.specs.Level.{FileLineModel}
+use Rattle.lc_walk.specs.{Classes.{binary_sums, text_sums}, AllColumns.all_columns}
 
 -- the shown rows are the summed rows, each once
 abbrev pub PermutationLaw : Type 0
@@ -31,10 +32,6 @@ abbrev pub TotalsLaw : Type 0
 TotalsLaw =
     (by : Columns) (sort : Option Number) (rs : List TallyRowModel) (fs : List FileLineModel) (shown : List ShownRowModel)
     → AreShown by sort rs fs shown → sums_of_shown shown ≡ totals_of by.dir rs fs
-
--- all columns of a report's rows, and no directories
-abbrev pub all_columns : Columns
-all_columns = record { dir = None; ext = true; text = true; eol = true }
 
 -- adding up rows that are in the order of their keys changes no row if no column is missing
 abbrev pub WholeLaw : Type 0

@@ -7,7 +7,6 @@ pub mod AddingUp
 pub mod TreeRows
 pub mod LevelParts
 pub mod Views
-pub mod Classes
 pub mod Laws
 pub mod Words
 pub mod Kinds

@@ -6,8 +6,8 @@ use Rattle.lc_sheet.specs.declared.column.{Column.Column, Number.{Number, TheVar
 use Rattle.lc_sheet.specs.declared.table_options.TableOptions.{TableOptions}
 use Rattle.lc_tree.specs.Trees.{Listings, Contents}
 use Rattle.lc_walk.specs.{Sums.plus, declared.{options.Options.Options, report.Report.Report}}
-use Rattle.lc_rows.specs.{Laws.totals_of, Sheets.{IsSheetOf, IsSheetWith}, ShownFiles.AreFilesSorted, Views.first_of}
-use Rattle.lc_rows.specs.{WalkedReports.{IsOfWalk, ListsFilesFor}, declared.classes.ClassSums.ClassSums}
+use Rattle.lc_rows.specs.{Laws.totals_of, Sheets.IsSheetOf, ShownFiles.AreFilesSorted, Views.first_of}
+use Rattle.lc_rows.specs.WalkedReports.{IsOfWalk, ListsFilesFor}
 use Rattle.lc_level.specs.Level.{FileLineModel}
 use Rattle.lc_sheet.specs.declared.column.Column.TheVariants as column
 
@@ -58,7 +58,7 @@ RowsAddUp s = (n : Number) → column_sum n s.rows + column_sum n s.others ≡ f
 
 abbrev pub SheetTotalsLaw : Type 0
 SheetTotalsLaw =
-    (options : TableOptions) (r : Report) (classes : ClassSums) (s : SheetModel) → HasTotals options r → IsSheetWith options r classes s
+    (options : TableOptions) (r : Report) (s : SheetModel) → HasTotals options r → IsSheetOf options r s
     → RowsAddUp s
 
 -- in each column of numbers, text files and binary files add up to the total
@@ -66,13 +66,13 @@ abbrev pub ClassesAddUp : SheetModel → Type 0
 ClassesAddUp s = (n : Number) → (text : ℕ) × (binary : ℕ) × (numbers_in n s.totals ≡ (text + binary) ∷ text ∷ binary ∷ [])
 
 -- the totals of a report are the sums over text files plus the sums over binary files
-abbrev pub HasClassTotals : Report → ClassSums → Type 0
-HasClassTotals r classes = r.totals ≡ plus classes.text classes.binary
+abbrev pub HasClassTotals : Report → Type 0
+HasClassTotals r = r.totals ≡ plus r.classes.text r.classes.binary
 
 abbrev pub SheetClassesLaw : Type 0
 SheetClassesLaw =
-    (options : TableOptions) (r : Report) (classes : ClassSums) (s : SheetModel) → HasClassTotals r classes
-    → IsSheetWith options r classes s → ClassesAddUp s
+    (options : TableOptions) (r : Report) (s : SheetModel) → HasClassTotals r
+    → IsSheetOf options r s → ClassesAddUp s
 
 -- a share or a bar is of a part that is no larger than its whole
 abbrev pub IsWithin : ValueModel → Type 0
@@ -98,13 +98,13 @@ pub record SharesAreWithin (s : SheetModel) : Type 0 where
 
 abbrev pub SheetPartsLaw : Type 0
 SheetPartsLaw =
-    (options : TableOptions) (r : Report) (classes : ClassSums) (s : SheetModel) → HasTotals options r → IsSheetWith options r classes s
+    (options : TableOptions) (r : Report) (s : SheetModel) → HasTotals options r → IsSheetOf options r s
     → IsSectionWithin s.rows × IsSectionWithin s.others
 
 abbrev pub ClassPartsLaw : Type 0
 ClassPartsLaw =
-    (options : TableOptions) (r : Report) (classes : ClassSums) (s : SheetModel) → HasClassTotals r classes
-    → IsSheetWith options r classes s → IsSectionWithin s.totals
+    (options : TableOptions) (r : Report) (s : SheetModel) → HasClassTotals r
+    → IsSheetOf options r s → IsSectionWithin s.totals
 
 -- rows and classes add up, and no share is over its whole
 pub record SheetAddsUp (s : SheetModel) : Type 0 where
@@ -133,7 +133,7 @@ path_at (c ∷ cs) (v ∷ vs) = path_at cs vs
 -- the files that a sheet lists are the first of the report's sorted files
 abbrev pub SheetFilesLaw : Type 0
 SheetFilesLaw =
-    (options : TableOptions) (r : Report) (classes : ClassSums) (s : SheetModel) (section : SectionModel) → IsSheetWith options r classes s
+    (options : TableOptions) (r : Report) (s : SheetModel) (section : SectionModel) → IsSheetOf options r s
     → s.files ≡ Some section
     → (files : List FileLineModel) × AreFilesSorted options.sort r.files.items files
     × (map (path_at section.columns) section.lines ≡ map (λ (f : FileLineModel). f.path) (first_of options.top files))

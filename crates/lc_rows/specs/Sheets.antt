@@ -1,13 +1,13 @@
 -- The sheet of a report.
-use Rattle.std.specs.Prelude.{◌≡◌, ℕ, max, Bool, false, if◌then◌else◌, List, [], ◌∷◌, codes, unwrap_or, Option, Some, None}
+use Rattle.std.specs.Prelude.{◌≡◌, ℕ, max, Bool, false, if◌then◌else◌, List, [], ◌∷◌, codes, unwrap_or, nat_lt, Option, Some, None}
 use Rattle.lc_sheet.specs.{Sheets.{SectionModel, SheetModel, lines_of}, Values.ValueModel}
 use Rattle.lc_sheet.specs.declared.{column.{Column.Column, Number.{Number, TheVariants.Lines}}, form.{Form.Form, Shares.Shares}}
 use Rattle.lc_sheet.specs.declared.table_options.{Format.Format, TableOptions.TableOptions}
-use Rattle.lc_walk.specs.declared.{report.Report.Report, tally.sums.Sums.Sums}
-use Rattle.lc_rows.specs.{Classes.classes_of, Kinds.{NamedSumsModel, fault_value, file_value, row_value, skipped_value, sums_value}}
+use Rattle.lc_walk.specs.declared.{report.Report.Report, tally.{classes.ClassSums.ClassSums, sums.Sums.Sums}}
+use Rattle.lc_rows.specs.{Kinds.{NamedSumsModel, fault_value, file_value, row_value, skipped_value, sums_value}}
 use Rattle.lc_rows.specs.{RowKeys.ShownRowModel, SheetColumns.{fault_columns, file_columns, first_key, keeps_columns, row_columns}}
 use Rattle.lc_rows.specs.{SheetColumns.{skipped_columns, sums_columns}, ShownFiles.AreFilesSorted, ShownRows.{AreShown, number_in}}
-use Rattle.lc_rows.specs.{Views.{ViewModel, view_of}, declared.classes.ClassSums.ClassSums}
+use Rattle.lc_rows.specs.{Views.{ViewModel, view_of}}
 use Rattle.lc_level.specs.Level.{FileLineModel}
 
 -- ---- the form of lines
@@ -86,48 +86,36 @@ sheet_with m r = record {
   faults = Some (list_of (codes "fault") (section_of (fault_value m.form) fault_columns r.faults.items));
 }
 
-abbrev pub shown_of : TableOptions → Report → ClassSums → ViewModel → ShownModel
-shown_of options r classes v = record {
+abbrev pub shown_of : TableOptions → Report → ViewModel → ShownModel
+shown_of options r v = record {
   format = options.format;
   form = form_of options r.totals v.rows;
   columns = row_columns options;
   file_columns = file_columns options.format options.by;
   rows = v.rows;
   others = others_lines v.others;
-  totals = totals_lines r.totals classes;
-  some_binary = classes.some_binary;
+  totals = totals_lines r.totals r.classes;
+  some_binary = nat_lt 0 r.classes.binary.files;
   lists_files = options.files;
   files = v.files;
 }
 
--- the sheet of a report with these options, with these sums over text and binary files, and with this view of its rows and files
-abbrev pub sheet_among : TableOptions → Report → ClassSums → ViewModel → SheetModel
-sheet_among options r classes v = sheet_with (shown_of options r classes v) r
-
--- the sheet whose sums over text and binary files are those of the report's rows
+-- the sheet of a report with these options, and with this view of its rows and files
 abbrev pub sheet_of : TableOptions → Report → ViewModel → SheetModel
-sheet_of options r v = sheet_among options r (classes_of r.rows.items) v
+sheet_of options r v = sheet_with (shown_of options r v) r
 
 -- the files that a sheet lists: none if files are not requested
 abbrev pub listed_files : Bool → List FileLineModel → List FileLineModel
 listed_files listed files = if listed then files else []
 
--- a sheet of a report with these options and sums by class: it shows the first of these files, and the first of the rows, summed and sorted
-pub record HasFilesWith (options : TableOptions) (r : Report) (classes : ClassSums) (files : List FileLineModel) (s : SheetModel) : Type 0
-  where
-    pub rows : List ShownRowModel
-    pub are_rows : AreShown options.by options.sort r.rows.items files rows
-    pub is : s ≡ sheet_among options r classes (view_of options.top rows (listed_files options.files files))
+-- a sheet of a report with these options: it shows the first of these files, and the first of the rows, summed and sorted
+pub record HasFiles (options : TableOptions) (r : Report) (files : List FileLineModel) (s : SheetModel) : Type 0 where
+  pub rows : List ShownRowModel
+  pub are_rows : AreShown options.by options.sort r.rows.items files rows
+  pub is : s ≡ sheet_of options r (view_of options.top rows (listed_files options.files files))
 
-abbrev pub HasFiles : TableOptions → Report → List FileLineModel → SheetModel → Type 0
-HasFiles options r files s = HasFilesWith options r (classes_of r.rows.items) files s
-
--- a sheet of a report with these options and sums by class
-pub record IsSheetWith (options : TableOptions) (r : Report) (classes : ClassSums) (s : SheetModel) : Type 0 where
+-- a sheet of a report with these options
+pub record IsSheetOf (options : TableOptions) (r : Report) (s : SheetModel) : Type 0 where
   pub files : List FileLineModel
   pub are_files : AreFilesSorted options.sort r.files.items files
-  pub has : HasFilesWith options r classes files s
-
--- a sheet of a report with these options, whose sums by class are those of its rows
-abbrev pub IsSheetOf : TableOptions → Report → SheetModel → Type 0
-IsSheetOf options r s = IsSheetWith options r (classes_of r.rows.items) s
+  pub has : HasFiles options r files s

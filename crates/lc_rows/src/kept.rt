@@ -8,14 +8,15 @@ ghost use Rattle.lc_walk.specs.Tally.{CountedFile, StandsFor};
 ghost use Rattle.lc_walk.specs.TallyRows.{sums_of_rows};
 ghost use Rattle.lc_rows.specs.Kept.{IsKept, IsPart, file_meets, row_meets, value_of_file, whole_form};
 ghost use Rattle.lc_rows.specs.Kinds.{row_value};
-ghost use Rattle.lc_rows.specs.Laws.{all_columns};
+ghost use Rattle.lc_walk.specs.Classes.{classes_of};
+ghost use Rattle.lc_walk.specs.AllColumns.{all_columns};
 ghost use Rattle.lc_rows.specs.ShownRows.{part_of_row};
 
 use crate::directories::name_of;
 use crate::kinds::{Files, Rows};
 use crate::shown_row::ShownRow;
 use lc_sheet::{Column, Columns, Condition, Form, Lines, needs_files};
-use lc_walk::{FileLine, Report, Sums, Tally, TallyRow, extension};
+use lc_walk::{ClassSums, FileLine, Report, Sums, Tally, TallyRow, extension, sums_of_rows};
 use std::alloc::{AllocError, Global};
 
 /// Returns the form in which a line has a value in each column of a report's rows, so that no column is summed over.
@@ -90,16 +91,18 @@ fn keep_rows(conditions: &[Condition<'_>], rows: &mut Vec<TallyRow>)
     rows.retain(|row| row_meets(conditions, row));
 }
 
-/// Adds up rows. An error means that the sums overflow. The sums of a walk's rows never overflow.
-fn sums_of_rows(rows: &[TallyRow]) -> Result<Sums, AllocError>
-    ensures sums { IfOk result (λ sums. sums ≡ sums_of_rows rows.now) }
+/// Adds up all rows, and the rows of each class. An error means that sums overflow. The sums of a walk's rows never overflow.
+fn sums_of(rows: &[TallyRow]) -> Result<(Sums, ClassSums), AllocError>
+    ensures sums { IfOk result (λ sums. (sums.0 ≡ sums_of_rows rows.now) × (sums.1 ≡ classes_of rows.now)) }
     ensures overflow { IfErr result (λ _. IsInRange (sums_of_rows rows.now) → ⊥) }
 {
-    let mut sums = Sums::none();
-    for row in rows {
-        sums = sums.checked_add(row.sums()).ok_or(AllocError)?;
+    let Some(totals) = sums_of_rows(rows) else {
+        return Err(AllocError);
+    };
+    match ClassSums::of(rows) {
+        Some(classes) => Ok((totals, classes)),
+        None => Err(AllocError),
     }
-    Ok(sums)
 }
 
 /// Adds a file to a tally. An error means that an allocation failed, or that the tally has more files than any walk.
@@ -123,7 +126,7 @@ fn tally_of(alloc: Global, files: &[FileLine]) -> Result<Tally, AllocError>
     Ok(tally)
 }
 
-/// Keeps the files that meet the conditions, and makes the rows and totals anew from these files. One of the conditions is on a number.
+/// Keeps the files that meet the conditions, and makes the rows and all sums anew from these files. One of the conditions is on a number.
 fn keep_by_files(
     alloc: Global,
     conditions: &[Condition<'_>],
@@ -138,6 +141,8 @@ fn keep_by_files(
     let tally = tally_of(alloc, &report.files)?;
     report.totals = tally.totals();
     report.rows = tally.into_rows();
+    let (_, classes) = sums_of(&report.rows)?;
+    report.classes = classes;
     Ok(())
 }
 
@@ -148,7 +153,7 @@ fn are_in_range(sums: Sums)
     let _sums = sums;
 }
 
-/// Keeps the files and the rows that meet the conditions, and adds up the totals anew. No condition is on a number, so all files of a row
+/// Keeps the files and the rows that meet the conditions, and adds up all sums anew. No condition is on a number, so all files of a row
 /// meet the conditions, or none does.
 fn keep_by_rows(conditions: &[Condition<'_>], report: &mut Report) -> Result<(), AllocError>
     requires by_rows { needs_files conditions.now ≡ false }
@@ -160,13 +165,15 @@ fn keep_by_rows(conditions: &[Condition<'_>], report: &mut Report) -> Result<(),
     are_in_range(report.totals);
     keep_files(conditions, &mut report.files);
     keep_rows(conditions, &mut report.rows);
-    report.totals = sums_of_rows(&report.rows)?;
+    let (totals, classes) = sums_of(&report.rows)?;
+    report.totals = totals;
+    report.classes = classes;
     Ok(())
 }
 
 /// Keeps the part of a report that meets all conditions, in place. The function drops the files that do not meet the conditions. If a
 /// condition is on a number, such as `lines>1000`, the rows are then made anew from the files that are left. Otherwise the function drops
-/// the rows that do not meet the conditions. The totals are added up anew. If there are no conditions, the whole report is kept.
+/// the rows that do not meet the conditions. All sums are added up anew. If there are no conditions, the whole report is kept.
 ///
 /// Skipped entries, errors and the numbers of directories and entries stay as they are. If a condition is on a number, the report must list
 /// its files, and the function allocates memory. An error means that an allocation failed, or that the sums are larger than the sums of any

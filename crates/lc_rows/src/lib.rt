@@ -8,7 +8,6 @@
 //! - `files`: the files that a table lists, sorted
 //! - `cut`: the first rows or files of a table, and the sums over the other rows
 //! - `kept`: the part of a report that meets some conditions
-//! - `classes`: the sums over binary files and over text files
 //! - `kinds`: the value of a row, a file or another line in each column of a sheet
 //! - `values`: values of columns that several kinds of lines share
 //! - `words`: the words that are printed of a skipped entry
@@ -19,7 +18,6 @@
 #![tactic(auto)]
 
 mod adding_up;
-mod classes;
 mod columns;
 mod cut;
 mod depth_first;
@@ -39,7 +37,6 @@ mod shown_sheet;
 mod values;
 mod words;
 
-pub use classes::ClassSums;
 pub use columns::{first_key, keeps_columns, push_if, push_keys};
 pub use cut::split_at_top;
 pub use directories::{directory_at, level_of, name_of, own_part};

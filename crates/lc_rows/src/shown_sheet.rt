@@ -1,12 +1,11 @@
 //! The shown part of a report, and its sheet.
 
 ghost use Rattle.std.specs.Prelude.{◌≡◌, if◌then◌else◌, Option, Some, None, IfOk};
-ghost use Rattle.lc_rows.specs.Sheets.{HasFiles, HasFilesWith, files_section, form_of, largest, listed_files, others_lines};
-ghost use Rattle.lc_rows.specs.Sheets.{share_number, shares_of, sheet_among, sheet_of, totals_lines};
+ghost use Rattle.lc_rows.specs.Sheets.{HasFiles, files_section, form_of, largest, listed_files, others_lines};
+ghost use Rattle.lc_rows.specs.Sheets.{share_number, shares_of, sheet_of, totals_lines};
 ghost use Rattle.lc_rows.specs.Views.{first_of, rest_of, sums_of_some, view_of};
 ghost use Rattle.lc_rows.specs.WalkedReports.{HasFilesFor};
 
-use crate::classes::ClassSums;
 use crate::columns::{
     LISTED_FAULTS, file_columns, first_key, row_columns, skipped_columns, sums_columns,
 };
@@ -15,7 +14,7 @@ use crate::kinds::{Faults, Files, NamedSums, Rows, Skipped, Totals};
 use crate::shown::{number_in, shown_rows};
 use crate::shown_row::ShownRow;
 use lc_sheet::{Column, Form, Format, Number, Section, Shares, Sheet, TableOptions};
-use lc_walk::{FileLine, Report, Sums};
+use lc_walk::{ClassSums, FileLine, Report, Sums};
 use std::alloc::{AllocError, Global};
 use std::marker::Model;
 
@@ -40,10 +39,8 @@ pub struct Shown<'a> {
 }
 
 impl<'a> Model for Shown<'a> {
-    ghost use Rattle.std.specs.List.{list_any};
     ghost use Rattle.lc_sheet.specs.Sheets.{SheetModel};
     ghost use Rattle.lc_rows.specs.Sheets.{sheet_with};
-    ghost use Rattle.lc_rows.specs.Classes.{is_binary};
 
     ghost Value = { SheetModel };
 
@@ -156,7 +153,7 @@ fn listed_files(listed: bool, files: &[FileLine]) -> &[FileLine]
 }
 
 impl<'a> Shown<'a> {
-    /// Sums, sorts and cuts the rows of a report. Also adds up the rows that are cut off, and the rows of text files and of binary files.
+    /// Sums, sorts and cuts the rows of a report, and adds up the rows that are cut off.
     ///
     /// Rows by directory are sums over the files, which the report must have. The sheet lists files in the order of the report, so the
     /// caller sorts them before, with [`sort_files`](crate::sort_files). An error means that an allocation failed or that sums overflow.
@@ -169,29 +166,13 @@ impl<'a> Shown<'a> {
         requires files { HasFilesFor options.now report.now.lists }
         ensures { IfOk result (λ shown. HasFiles options.now report.entry.now report.entry.now.files.items shown) }
     {
-        let classes = ClassSums::of_all(&report.rows)?;
-        let shown = Shown::with_classes(alloc, report, classes, options)?;
-        Ok(shown)
-    }
-
-    /// Like [`of`](Shown::of), but shows the sums in `classes` over text files and over binary files. This is for a report whose rows do
-    /// not keep text files and binary files apart.
-    pub fn with_classes(
-        alloc: Global,
-        report: &'a Report,
-        classes: ClassSums,
-        options: &TableOptions,
-    ) -> Result<Shown<'a>, AllocError>
-        requires files { HasFilesFor options.now report.now.lists }
-        ensures { IfOk result (λ shown. HasFilesWith options.now report.entry.now classes report.entry.now.files.items shown) }
-    {
         let rows = shown_rows(alloc, &report.rows, &report.files, options.by, options.sort)?;
-        let shown = Shown::with_all(alloc, report, classes, options, rows)?;
+        let shown = Shown::with_rows(alloc, report, options, rows)?;
         Ok(shown)
     }
 
     /// Like [`of`](Shown::of), but shows the given `rows` of the report, which [`shown_rows`] summed and sorted. Cuts these rows, and adds
-    /// up the rows that are cut off. Also adds up the report's rows of text files and of binary files.
+    /// up the rows that are cut off.
     pub fn with_rows(
         alloc: Global,
         report: &'a Report,
@@ -199,21 +180,6 @@ impl<'a> Shown<'a> {
         rows: Vec<ShownRow<'a>>,
     ) -> Result<Shown<'a>, AllocError>
         ensures { IfOk result (λ shown. shown ≡ sheet_of options.now report.entry.now
-            (view_of options.now.top rows.entry.items (listed_files options.now.files report.entry.now.files.items))) }
-    {
-        let classes = ClassSums::of_all(&report.rows)?;
-        let shown = Shown::with_all(alloc, report, classes, options, rows)?;
-        Ok(shown)
-    }
-
-    fn with_all(
-        alloc: Global,
-        report: &'a Report,
-        classes: ClassSums,
-        options: &TableOptions,
-        rows: Vec<ShownRow<'a>>,
-    ) -> Result<Shown<'a>, AllocError>
-        ensures { IfOk result (λ shown. shown ≡ sheet_among options.now report.entry.now classes
             (view_of options.now.top rows.entry.items (listed_files options.now.files report.entry.now.files.items))) }
     {
         let mut rows = rows;
@@ -227,8 +193,8 @@ impl<'a> Shown<'a> {
             file_columns: file_columns(alloc, options.format, options.by)?,
             rows,
             others: others_lines(alloc, others)?,
-            totals: totals_lines(alloc, report.totals, classes)?,
-            some_binary: classes.some_binary,
+            totals: totals_lines(alloc, report.totals, report.classes)?,
+            some_binary: report.classes.binary.files > 0,
             lists_files: options.files,
             files,
             report,

@@ -1,16 +1,16 @@
 -- Sums of reports have no order.
 use Rattle.std.proofs.Common.{◌≡◌, ℕ, Bool, true, false, cond, List, [], ◌∷◌, Some, None, map, refl, sym, ◌∙◌, ap, arith, IsPermutation}
 use Rattle.std.proofs.lemmas.List.Sorted.{All-permutation, IsPermutation-map, IsPermutation-sym, list_any-IsPermutation}
-use Rattle.std.proofs.lemmas.List.Sorted.{sum_by-IsPermutation}
 use Rattle.std.proofs.lemmas.List.Sums.{AllPass-from_list_all, list_all-from_AllPass}
-use Rattle.std.specs.{Cmp.both_ways, List.{find, list_all, list_any, sum_by}}
+use Rattle.std.specs.{Cmp.both_ways, List.{find, list_all, list_any}}
 use Rattle.lc_level.specs.Level.{FileLineModel}
 use Rattle.lc_reports.proofs.Orders.{join_order}
-use Rattle.lc_walk.proofs.{MovedLists.lists_moved, RowSums.same_sums}
-use Rattle.lc_sums.proofs.{ClassesInTurn.same_totals, RepeatedPaths.times_moved}
-use Rattle.lc_sums.specs.{Laws.SumOrderLaw, Needs.{columns_of, has_some, lacks_column, lacks_files, lacks_skipped, shared_columns}}
-use Rattle.lc_sums.specs.{Paths.{AreApart, paths_of}, Sums.{CanBeSummed, IsSumOf, NoneLacks, class_totals, needed_report, needed_reports}}
-use Rattle.lc_sums.specs.declared.{class_totals.ClassTotals.ClassTotals, needs.Needs.Needs, part.Part.Part, sum.Sum.Sum}
+use Rattle.lc_walk.proofs.MovedLists.{lists_moved}
+use Rattle.lc_walk.specs.declared.report.Report.{Report}
+use Rattle.lc_sums.proofs.RepeatedPaths.{times_moved}
+use Rattle.lc_sums.specs.{Laws.SumOrderLaw, Needs.{has_some, lacks_column, lacks_files, lacks_skipped, shared_columns}}
+use Rattle.lc_sums.specs.{Paths.{AreApart, paths_of}, Sums.{CanBeSummed, IsSumOf, NoneLacks, needed_report, needed_reports}}
+use Rattle.lc_sums.specs.declared.{needs.Needs.Needs, part.Part.Part}
 
 -- ---- what none lacks
 
@@ -45,24 +45,14 @@ module _ (ps moved : List Part) (m : IsPermutation ps moved) where
 
   shared_moved : shared_columns ps ≡ shared_columns moved
   shared_moved = λ i. record {
-    ext = all_moved (λ p. (columns_of p.report).ext) i;
-    text = all_moved (λ p. (columns_of p.report).text) i;
-    eol = all_moved (λ p. (columns_of p.report).eol) i;
+    dir = None;
+    ext = all_moved (λ p. p.report.columns.ext) i;
+    text = all_moved (λ p. p.report.columns.text) i;
+    eol = all_moved (λ p. p.report.columns.eol) i;
   }
 
-  sum_moved : (f : Part → ℕ) → sum_by f ps ≡ sum_by f moved
-  sum_moved f = sym (sum_by-IsPermutation f ps moved m)
-
-  totals_moved : class_totals ps ≡ class_totals moved
-  totals_moved =
-      same_totals _ _
-      (same_sums _ _ (sum_moved (λ p. p.report.text.files)) (sum_moved (λ p. p.report.text.lines))
-      (sum_moved (λ p. p.report.text.blank)) (sum_moved (λ p. p.report.text.bytes)))
-      (same_sums _ _ (sum_moved (λ p. p.report.binary.files)) (sum_moved (λ p. p.report.binary.lines))
-      (sum_moved (λ p. p.report.binary.blank)) (sum_moved (λ p. p.report.binary.bytes)))
-
   paths_moved : IsPermutation (paths_of ps) (paths_of moved)
-  paths_moved = lists_moved (λ (p : Part). map (λ (f : FileLineModel). f.path) p.report.report.files.items) ps moved m
+  paths_moved = lists_moved (λ (p : Part). map (λ (f : FileLineModel). f.path) p.report.files.items) ps moved m
 
   apart_moved : AreApart (paths_of ps) → AreApart (paths_of moved)
   apart_moved apart q twice = let same = times_moved q (paths_of ps) (paths_of moved) paths_moved in apart q (omega (arith, twice))
@@ -80,14 +70,11 @@ module _ (ps moved : List Part) (m : IsPermutation ps moved) where
     apart = apart_moved can.apart;
   }
 
-  sum_is_moved : (needs : Needs) (s : Sum) → IsSumOf needs ps s → IsSumOf needs moved s
+  sum_is_moved : (needs : Needs) (s : Report) → IsSumOf needs ps s → IsSumOf needs moved s
   sum_is_moved needs s is = record {
-    joined = join_order (needed_reports needs ps) (needed_reports needs moved) s.report
+    joined = join_order (needed_reports needs ps) (needed_reports needs moved) s
         (IsPermutation-map (needed_report needs) ps moved m) is.joined;
     files = is.files;
-    columns = is.columns ∙ shared_moved;
-    text = is.text ∙ ap (λ (t : ClassTotals). t.text) totals_moved;
-    binary = is.binary ∙ ap (λ (t : ClassTotals). t.binary) totals_moved;
   }
 
 pub sum_order : SumOrderLaw

@@ -1,4 +1,3 @@
-pub mod ClassesInTurn
 pub mod RepeatedPaths
 pub mod PathsGathered
 pub mod ReportsNeeded

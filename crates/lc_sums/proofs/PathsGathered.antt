@@ -5,11 +5,11 @@ use Rattle.lc_level.specs.Level.{FileLineModel}
 use Rattle.lc_sums.specs.{Paths.paths_of, declared.part.Part.Part}
 
 abbrev paths_in : Part → List (List ℕ)
-paths_in p = map (λ (f : FileLineModel). f.path) p.report.report.files.items
+paths_in p = map (λ (f : FileLineModel). f.path) p.report.files.items
 
 -- the paths so far and those of the first report, and then those of the other reports
 pub next_gathered : (front new all : List (List ℕ)) (files : List FileLineModel) (rest : List Part) (p d : Part) → 1 ≤ length rest
-    → p ≡ get_or rest 0 d → files ≡ p.report.report.files.items → new ≡ front ++ map (λ (f : FileLineModel). f.path) files
+    → p ≡ get_or rest 0 d → files ≡ p.report.files.items → new ≡ front ++ map (λ (f : FileLineModel). f.path) files
     → front ++ paths_of rest ≡ all → new ++ paths_of (take (length rest - 1) (drop 1 rest)) ≡ all
 next_gathered front new all files [] p d some first lent more so_far = absurd (omega arith)
 next_gathered front new all files (r ∷ rs) p d some first lent more so_far =

@@ -16,4 +16,4 @@ all_have_files needs (p ∷ ps) needed = ap₂ (λ a b. a && b) needed (all_have
 pub not_summed : (needs : Needs) (ps : List Part) (rs : List Report) (fault : JoinFault) → rs ≡ needed_reports needs ps
     → AreUnjoined rs fault → IsUnjoined needs ps (fault_of_join fault)
 not_summed needs ps rs join.Memory are fits = tt
-not_summed needs ps rs join.TooLarge are unfit = λ fit. unfit (subst Fits (sym are) fit.report)
+not_summed needs ps rs join.TooLarge are unfit = λ fit. unfit (subst Fits (sym are) fit)

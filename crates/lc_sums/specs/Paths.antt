@@ -7,7 +7,7 @@ use Rattle.lc_sums.specs.declared.part.Part.{Part}
 
 -- the paths of all files that the reports list
 abbrev pub paths_of : List Part → List (List ℕ)
-paths_of ps = flat_map (λ (p : Part). map (λ (f : FileLineModel). f.path) p.report.report.files.items) ps
+paths_of ps = flat_map (λ (p : Part). map (λ (f : FileLineModel). f.path) p.report.files.items) ps
 
 -- two or more of these paths are equal to this path
 abbrev pub IsTwice : List ℕ → List (List ℕ) → Type 0

@@ -1,11 +1,10 @@
 -- The sum of several reports, or why they are not summed.
-use Rattle.std.specs.{Prelude.{◌≡◌, ℕ, Bool, true, false, List, ⊤, map, sum_by, Some, None, Result, MatchResult}, List.find}
+use Rattle.std.specs.{Prelude.{◌≡◌, ℕ, Bool, true, false, List, ⊤, map, Some, None, Result, MatchResult}, List.find}
 use Rattle.lc_reports.specs.{Joined.{Fits, IsJoined}, declared.join_fault.JoinFault.JoinFault}
 use Rattle.lc_sheet.specs.declared.column.Column.{Column}
-use Rattle.lc_walk.specs.{Sums.IsInRange, declared.report.Report.Report}
+use Rattle.lc_walk.specs.declared.report.Report.{Report}
 use Rattle.lc_sums.specs.{Needs.{has_some, lacking, lacks_column, lacks_files, lacks_skipped, shared_columns}, Paths.AreApart}
-use Rattle.lc_sums.specs.{Paths.{IsFirstTwice, paths_of}, declared.{class_totals.ClassTotals.ClassTotals, needs.Needs.Needs}}
-use Rattle.lc_sums.specs.declared.{part.Part.Part, sum.Sum.Sum}
+use Rattle.lc_sums.specs.{Paths.{IsFirstTwice, paths_of}, declared.{needs.Needs.Needs, part.Part.Part}}
 use Rattle.lc_sums.specs.declared.sum_fault.SumFault.{SumFault}
 use Rattle.lc_sums.specs.declared.sum_fault.SumFault.TheVariants.{Memory, NoColumn, NoSharedColumn, NoFiles, NoSkipped, SamePath, TooLarge}
 use Rattle.lc_reports.specs.declared.join_fault.JoinFault.TheVariants as join
@@ -49,44 +48,15 @@ pub record CanBeSummed (needs : Needs) (ps : List Part) : Type 0 where
 
 -- a report, with the needed lists alone
 abbrev pub needed_report : Needs → Part → Report
-needed_report needs p = record p.report.report { lists = record { files = needs.files; left_out = needs.left_out } }
+needed_report needs p = record p.report { lists = record { files = needs.files; left_out = needs.left_out } }
 
 abbrev pub needed_reports : Needs → List Part → List Report
 needed_reports needs ps = map (needed_report needs) ps
 
--- the sums over text and over binary files of all reports
-abbrev pub class_totals : List Part → ClassTotals
-class_totals ps = record {
-  text = record {
-    files = sum_by (λ (p : Part). p.report.text.files) ps;
-    lines = sum_by (λ (p : Part). p.report.text.lines) ps;
-    blank = sum_by (λ (p : Part). p.report.text.blank) ps;
-    bytes = sum_by (λ (p : Part). p.report.text.bytes) ps;
-  };
-  binary = record {
-    files = sum_by (λ (p : Part). p.report.binary.files) ps;
-    lines = sum_by (λ (p : Part). p.report.binary.lines) ps;
-    blank = sum_by (λ (p : Part). p.report.binary.blank) ps;
-    bytes = sum_by (λ (p : Part). p.report.binary.bytes) ps;
-  };
-}
-
-pub record ClassesFit (t : ClassTotals) : Type 0 where
-  pub text : IsInRange t.text
-  pub binary : IsInRange t.binary
-
--- whether each sum fits its type
-pub record SumsFit (needs : Needs) (ps : List Part) : Type 0 where
-  pub classes : ClassesFit (class_totals ps)
-  pub report : Fits (needed_reports needs ps)
-
--- the sum of the reports: their joined report, with the columns that all of them have
-pub record IsSumOf (needs : Needs) (ps : List Part) (s : Sum) : Type 0 where
-  pub joined : IsJoined (needed_reports needs ps) s.report
-  pub files : needs.files ≡ true → s.report.lists.files ≡ true
-  pub columns : s.columns ≡ shared_columns ps
-  pub text : s.text ≡ (class_totals ps).text
-  pub binary : s.binary ≡ (class_totals ps).binary
+-- the sum of the reports: their joined report, which lists its files if these are needed
+pub record IsSumOf (needs : Needs) (ps : List Part) (s : Report) : Type 0 where
+  pub joined : IsJoined (needed_reports needs ps) s
+  pub files : needs.files ≡ true → s.lists.files ≡ true
 
 -- ---- why there is none
 
@@ -116,7 +86,7 @@ fault_of_join join.TooLarge = TooLarge
 
 -- the error if a sum does not fit its type, or an allocation fails
 abbrev pub IsUnjoined : Needs → List Part → SumFault → Type 0
-IsUnjoined needs ps TooLarge = SumsFit needs ps → ⊥
+IsUnjoined needs ps TooLarge = Fits (needed_reports needs ps) → ⊥
 IsUnjoined needs ps Memory = ⊤
 IsUnjoined needs ps other = ⊥
 
@@ -130,5 +100,5 @@ IsRefused needs ps (NoSkipped origin) = HaveColumns needs ps × LacksLists needs
 IsRefused needs ps (SamePath path) = HaveColumns needs ps × HaveLists needs ps × HasSamePath ps (SamePath path)
 IsRefused needs ps TooLarge = CanBeSummed needs ps × IsUnjoined needs ps TooLarge
 
-abbrev pub IsSummed : Needs → List Part → Result Sum SumFault → Type 0
+abbrev pub IsSummed : Needs → List Part → Result Report SumFault → Type 0
 IsSummed needs ps result = MatchResult result (λ s. CanBeSummed needs ps × IsSumOf needs ps s) (IsRefused needs ps)

@@ -14,14 +14,14 @@ use crate::sum_fault::SumFault;
 fn first_without_files<'p, 'n>(parts: &'p [Part<'n>]) -> Option<&'p Part<'n>>
     ensures { option_copied result ≡ find lacks_files parts.now }
 {
-    parts.iter().find(|part| !part.report.report.lists.files)
+    parts.iter().find(|part| !part.report.lists.files)
 }
 
 /// Returns the first report that lists no skipped entries.
 fn first_without_skipped<'p, 'n>(parts: &'p [Part<'n>]) -> Option<&'p Part<'n>>
     ensures { option_copied result ≡ find lacks_skipped parts.now }
 {
-    parts.iter().find(|part| !part.report.report.lists.left_out)
+    parts.iter().find(|part| !part.report.lists.left_out)
 }
 
 /// Refuses reports if files are needed and one report lists no files.

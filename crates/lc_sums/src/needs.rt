@@ -4,14 +4,13 @@ ghost use Rattle.std.specs.Prelude.{◌≡◌};
 ghost use Rattle.std.specs.List.{list_any};
 ghost use Rattle.lc_sums.specs.Needs.{by_directory, is_on_eol, is_on_ext, is_on_key, is_on_text, named_columns, needs_of, tested_columns};
 
-use lc_reading::RowColumns;
 use lc_sheet::{Column, Columns, Condition, needs_files};
 
 /// What is needed of each report that is summed.
 #[derive(Clone, Copy, Debug, Drop, PartialEq, Eq)]
 pub struct Needs {
-    /// The columns that each report must have.
-    pub columns: RowColumns,
+    /// The columns that the rows of each report must be grouped by.
+    pub columns: Columns,
     /// Whether the reports must have some column in common.
     pub some_column: bool,
     /// Whether each report must list its files.
@@ -66,32 +65,27 @@ fn test_keys(conditions: &[Condition<'_>]) -> bool
 /// Returns the columns of rows that are needed to test the given conditions.
 ///
 /// A condition on a column of rows also needs the column `Eol`, because text and binary files that meet the condition are summed anew.
-fn tested_columns(conditions: &[Condition<'_>]) -> RowColumns
+fn tested_columns(conditions: &[Condition<'_>]) -> Columns
     ensures { result ≡ tested_columns conditions.now }
 {
-    RowColumns {
+    Columns {
+        dir: None,
         ext: test_ext(conditions),
         text: test_text(conditions),
         eol: test_keys(conditions),
     }
 }
 
-/// Returns those of the requested columns that rows are grouped by.
-fn named_columns(by: Option<Columns>) -> RowColumns
+/// Returns the requested columns, or none if no columns were requested.
+fn named_columns(by: Option<Columns>) -> Columns
     ensures { result ≡ named_columns by }
 {
-    match by {
-        Some(by) => RowColumns {
-            ext: by.ext,
-            text: by.text,
-            eol: by.eol,
-        },
-        None => RowColumns {
-            ext: false,
-            text: false,
-            eol: false,
-        },
-    }
+    by.unwrap_or(Columns {
+        dir: None,
+        ext: false,
+        text: false,
+        eol: false,
+    })
 }
 
 fn by_directory(by: Option<Columns>) -> bool
@@ -120,7 +114,8 @@ impl Needs {
         let named = named_columns(by);
         let tested = tested_columns(conditions);
         Needs {
-            columns: RowColumns {
+            columns: Columns {
+                dir: None,
                 ext: named.ext || tested.ext,
                 text: named.text || tested.text,
                 eol: named.eol || tested.eol,

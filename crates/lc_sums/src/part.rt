@@ -1,6 +1,6 @@
 //! A report with its name.
 
-use lc_reading::ReadReport;
+use lc_walk::Report;
 
 /// One of several reports, and its name in errors.
 #[derive(Debug, Drop)]
@@ -8,5 +8,5 @@ pub struct Part<'n> {
     /// The name in errors: the file that the report was read from, or `standard input`.
     pub origin: &'n str,
     /// The report.
-    pub report: ReadReport,
+    pub report: Report,
 }

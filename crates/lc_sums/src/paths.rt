@@ -45,7 +45,7 @@ fn paths_of<'p>(alloc: Global, parts: &'p [Part<'_>]) -> Result<Vec<Listed<'p>>,
     let mut paths = Vec::new(alloc);
     let mut rest = parts;
     'parts: while let [part, others @ ..] = rest {
-        push_paths(&part.report.report.files, &mut paths)?;
+        push_paths(&part.report.files, &mut paths)?;
         rest = others;
     }
     Ok(paths)

@@ -2,15 +2,12 @@
 
 ghost use Rattle.std.specs.Prelude.{◌≡◌, IfOk, MatchResult};
 ghost use Rattle.lc_sums.specs.Sums.{CanBeSummed, IsRefused, IsSumOf, IsSummed, IsUnjoined, needed_report, needed_reports};
-ghost use Rattle.lc_reports.specs.Joined.{IsJoined};
 
-use crate::class_totals::ClassTotals;
-use crate::columns::{refuse_columns, shared_columns};
+use crate::columns::refuse_columns;
 use crate::lists::refuse_lists;
 use crate::needs::Needs;
 use crate::part::Part;
 use crate::paths::refuse_same_path;
-use crate::sum::Sum;
 use crate::sum_fault::{SumFault, fault_of_join};
 use lc_reports::joined;
 use lc_walk::{Report, ReportLists};
@@ -20,7 +17,7 @@ use std::alloc::{AllocError, Global};
 fn needed_report(needs: Needs, part: Part<'_>) -> Report
     ensures { result ≡ needed_report needs part.entry }
 {
-    let mut report = part.report.report;
+    let mut report = part.report;
     // The report need not drop the other lists: they are not joined.
     report.lists = ReportLists {
         files: needs.files,
@@ -53,9 +50,9 @@ fn refuse<'n>(alloc: Global, needs: Needs, parts: &[Part<'n>]) -> Result<(), Sum
     Ok(())
 }
 
-/// Joins the reports, with only the lists that are needed.
+/// Joins reports that may be summed, with only the lists that are needed.
 fn join<'n>(alloc: Global, needs: Needs, parts: Vec<Part<'n>>) -> Result<Report, SumFault<'n>>
-    ensures { MatchResult result (IsJoined (needed_reports needs parts.entry.items)) (IsUnjoined needs parts.entry.items) }
+    ensures { MatchResult result (IsSumOf needs parts.entry.items) (IsUnjoined needs parts.entry.items) }
 {
     let reports = needed_reports(alloc, needs, parts)?;
     match joined(alloc, reports) {
@@ -64,27 +61,10 @@ fn join<'n>(alloc: Global, needs: Needs, parts: Vec<Part<'n>>) -> Result<Report,
     }
 }
 
-/// Adds up reports that may be summed.
-fn sum_of<'n>(alloc: Global, needs: Needs, parts: Vec<Part<'n>>) -> Result<Sum, SumFault<'n>>
-    ensures { MatchResult result (IsSumOf needs parts.entry.items) (IsUnjoined needs parts.entry.items) }
-{
-    let columns = shared_columns(&parts);
-    let Some(classes) = ClassTotals::of(&parts) else {
-        return Err(SumFault::TooLarge);
-    };
-    let report = join(alloc, needs, parts)?;
-    Ok(Sum {
-        report,
-        columns,
-        text: classes.text,
-        binary: classes.binary,
-    })
-}
-
 /// Sums reports, or finds out why they can't be summed.
 ///
-/// The sum has the report that [`joined`] makes of all reports, with only the lists that are needed. Its `columns` are the columns that all
-/// reports have. Its `text` is the sum of the reports' `text`, and its `binary` the sum of the reports' `binary`.
+/// The sum is the report that [`joined`] makes of all reports, with only the lists that are needed. A table of the sum must group rows only
+/// by the columns of the sum, since the rows of some report have placeholders in the others.
 ///
 /// The function looks for errors other than `Memory` in the order of the variants of [`SumFault`]. It tests all reports for one error
 /// before it tests any report for the next error in this order. For example, it refuses a report without a needed column before a report
@@ -97,9 +77,9 @@ fn sum_of<'n>(alloc: Global, needs: Needs, parts: Vec<Part<'n>>) -> Result<Sum, 
 /// ```
 /// let sum = summed(alloc, parts, Needs::of(None, &[], false, false))?;
 /// ```
-pub fn summed<'n>(alloc: Global, parts: Vec<Part<'n>>, needs: Needs) -> Result<Sum, SumFault<'n>>
+pub fn summed<'n>(alloc: Global, parts: Vec<Part<'n>>, needs: Needs) -> Result<Report, SumFault<'n>>
     ensures { IsSummed needs parts.entry.items result }
 {
     refuse(alloc, needs, &parts)?;
-    sum_of(alloc, needs, parts)
+    join(alloc, needs, parts)
 }

@@ -269,7 +269,9 @@ module _ (ask : Asked) (MayAnswer : List ℕ → Answers → Type 0) (capacity w
         record {
           lists_are = is.lists_are;
           tally = is.tally (tallied_of found) stands;
+          columns = is.columns;
           totals = is.totals ∙ stands.totals;
+          classes = is.classes;
           directories = is.directories ∙ tells.directories ∙ sym (ap length directory_rows);
           entries = is.entries ∙ tells.entries ∙ sym entry_rows;
           files_are = subst (λ l. IsPermutation l r.files.items) (tells.files ∙ sym file_rows) is.files;

@@ -48,3 +48,4 @@ pub mod WalkParts
 pub mod Working
 pub mod IncludedFiles
 pub mod ReportTotals
+pub mod Classes

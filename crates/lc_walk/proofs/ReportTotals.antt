@@ -14,12 +14,13 @@ use Rattle.lc_level.specs.{WellFormed.IsWellFormed, declared.fault_word.FaultWor
 use Rattle.lc_level.proofs.WellFormed.{IsGoodName, Spread}
 use Rattle.lc_tree.specs.{Trees.{Listings, Contents}, declared.entry.Kind.{Kind, TheVariants.{File, Dir, Other}}}
 use Rattle.lc_walk.proofs.{Joining.{tally_permuted, sums_permuted}, Levels.{level_keeps, well_formed_part}, PresentFaults.each_led}
-use Rattle.lc_walk.proofs.{RowSums.same_sums, RowTrees.by_answers, Totals.same_totals}
+use Rattle.lc_walk.proofs.{Classes.both_are_all, RowSums.same_sums, RowTrees.by_answers, Totals.same_totals}
 use Rattle.lc_walk.specs.{Extension.extension_of, Found.{Found, found_file, found_fault, found_directory, found_skipped, found_absent}}
 use Rattle.lc_walk.specs.{Found.{found_at, found_by, found_of}, FoundReports.{IsReportOf, files_of, tallied, tallied_of}, Key.same_key}
-use Rattle.lc_walk.specs.{ReportTotals.{ReportTotalsLaw, TotalsAddUp, counted_line}, Sums.one_file, Tally.{CountedFile, IsTally}}
+use Rattle.lc_walk.specs.{ReportTotals.{ReportTotalsLaw, TotalsAddUp, counted_line}, Sums.{one_file, plus}, Tally.{CountedFile, IsTally}}
 use Rattle.lc_walk.specs.{Tally.{counted as counted_file, files_with, key_of, sums_of_files}, TallyRows.{TallyRowModel, row_with}}
 use Rattle.lc_walk.specs.{TallyRows.sums_of_rows, WalkOptions.{asked_by, top_of}, Walks.Walks}
+use Rattle.lc_walk.specs.declared.tally.classes.ClassSums.{ClassSums}
 use Rattle.lc_walk.specs.declared.{options.{Options.Options, ReportLists.ReportLists}, report.Report.Report}
 
 -- ---- the sums of a tally
@@ -178,8 +179,10 @@ report_adds_up lists xs r named is =
     λ asked. subst (λ l. IsPermutation l (map counted_line r.files.items)) (lines_counted xs named)
     (IsPermutation-map counted_line (files_of xs) r.files.items
     (subst (λ b. IsPermutation (cond b (files_of xs) []) r.files.items) (sym (ap (λ (l : ReportLists). l.files) is.lists_are) ∙ asked)
-    is.files_are)) in record {
-      rows = is.totals ∙ sym (tally_sums (tallied_of xs) r.rows.items is.tally);
+    is.files_are)) in
+    let rows : r.totals ≡ sums_of_rows r.rows.items = is.totals ∙ sym (tally_sums (tallied_of xs) r.rows.items is.tally) in record {
+      rows = rows;
+      classes = rows ∙ sym (both_are_all r.rows.items) ∙ ap (λ (c : ClassSums). plus c.text c.binary) (sym is.classes);
       files = λ asked. is.totals ∙ sums_permuted (tallied_of xs) (map counted_line r.files.items) (moved asked);
       tally = λ asked. tally_permuted r.rows.items (tallied_of xs) (map counted_line r.files.items) (moved asked) is.tally;
     }

@@ -16,6 +16,8 @@ report_law lists xs ys r moved is =
     record {
       lists_are = is.lists_are;
       tally = tally_permuted r.rows.items (tallied_of xs) (tallied_of ys) counted is.tally;
+      columns = is.columns;
+      classes = is.classes;
       totals = is.totals ∙ sums_permuted (tallied_of xs) (tallied_of ys) counted;
       directories =
           is.directories ∙ sym (length_permutation (directories_of xs) (directories_of ys) (lists_moved directory_in xs ys moved));

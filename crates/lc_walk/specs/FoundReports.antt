@@ -2,7 +2,7 @@
 use Rattle.std.specs.{Prelude.{◌≡◌, ℕ, if◌then◌else◌, List, [], ◌∷◌, length, flat_map, sum_by}, List.Sorted.{IsPermutation, IsSortedByKey}}
 use Rattle.lc_walk.specs.{Extension.extension_of, Tally.{CountedFile, counted, sums_of_files, IsTally}}
 use Rattle.lc_walk.specs.{declared.{options.ReportLists.ReportLists, report.Report.Report}, Found.{Found, found_file, found_fault}}
-use Rattle.lc_walk.specs.Found.{found_directory, found_skipped}
+use Rattle.lc_walk.specs.{Classes.classes_of, Found.{found_directory, found_skipped}, AllColumns.all_columns}
 use Rattle.lc_level.specs.{FaultLines.FaultLineModel, Level.{FileLineModel, SkippedLineModel, file_below, skipped_below}}
 use Rattle.lc_tree.specs.ByteOrder.{bytes_cmp}
 
@@ -66,12 +66,15 @@ skipped_lines_of xs = flat_map skipped_lines_in xs
 abbrev pub entry_count : List Found → ℕ
 entry_count xs = sum_by entries_in xs
 
--- the report of what was found has its tally and totals, the numbers of listed directories and of their entries, its errors, and the lists
--- of files and of skipped entries if they are requested. Each list is in the order of the bytes of the paths
+-- the report of what was found has its tally by all columns, its totals and the sums by class, the numbers of listed directories and of
+-- their entries, its errors, and the lists of files and of skipped entries if they are requested. Each list is in the order of the bytes of
+-- the paths
 pub record IsReportOf (lists : ReportLists) (xs : List Found) (r : Report) : Type 0 where
   pub lists_are : r.lists ≡ lists
   pub tally : IsTally (tallied_of xs) r.rows.items
+  pub columns : r.columns ≡ all_columns
   pub totals : r.totals ≡ sums_of_files (tallied_of xs)
+  pub classes : r.classes ≡ classes_of r.rows.items
   pub directories : r.directories ≡ length (directories_of xs)
   pub entries : r.entries ≡ entry_count xs
   pub files_are : IsPermutation (if lists.files then files_of xs else []) r.files.items

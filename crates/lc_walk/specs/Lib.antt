@@ -30,6 +30,8 @@ pub mod BoardAnswers
 pub mod CloseFaults
 pub mod WalkOptions
 pub mod FoundReports
+pub mod Classes
+pub mod AllColumns
 pub mod ClosedWalks
 pub mod Walks
 pub mod WorkerResults

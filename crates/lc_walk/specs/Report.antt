@@ -1,18 +1,21 @@
 -- The report of a walk.
 use Rattle.std.specs.{Prelude.{◌≡◌, List}, List.Sorted.{IsPermutation, IsSortedByKey}}
+use Rattle.lc_walk.specs.{Classes.classes_of, AllColumns.all_columns}
 use Rattle.lc_walk.specs.{Tally.{TallyModel, CountedFile, StandsFor, IsTally}, TallyRows.AddsUp, ReportLines.{file_paths, fault_paths}}
 use Rattle.lc_walk.specs.{ReportLines.skipped_paths, declared.options.ReportLists.ReportLists}
 use Rattle.lc_walk.specs.declared.report.{Report.Report, findings.Findings.Findings}
 use Rattle.lc_level.specs.{FaultLines.FaultLineModel, Level.{SkippedLineModel, FileLineModel}}
 use Rattle.lc_tree.specs.ByteOrder.{bytes_cmp, AreApart, AreInOrder}
 
--- the report made from a tally and findings, with the requested lists. Each list is in the order of the bytes of the paths, strictly if no
--- path is in it twice
+-- the report made from a tally and findings, with all columns and the requested lists. Each list is in the order of the bytes of the paths,
+-- strictly if no path is in it twice
 pub record IsReport (t : TallyModel) (lists : ReportLists) (found : Findings) (r : Report) : Type 0 where
   pub lists_are : r.lists ≡ lists
   pub tally : (fs : List CountedFile) → StandsFor t fs → IsTally fs r.rows.items
   pub rows : AddsUp t.rows r.rows.items
+  pub columns : r.columns ≡ all_columns
   pub totals : r.totals ≡ t.totals
+  pub classes : r.classes ≡ classes_of r.rows.items
   pub directories : r.directories ≡ found.directories
   pub entries : r.entries ≡ found.entries
   pub files : IsPermutation found.files.items r.files.items

@@ -15,11 +15,12 @@ mod row_lines;
 mod tree_check;
 
 use crate::options::ReportLists;
-use crate::tally::{Sums, Tally, TallyRow};
+use crate::tally::{ClassSums, Sums, Tally, TallyRow};
 pub use assembly::assemble;
 pub use findings::Findings;
 use lc_level::Line;
 pub use lc_level::{FaultLine, FileLine, SkippedLine};
+use lc_sheet::Columns;
 
 /// The report of a walk.
 #[derive(Debug, Drop)]
@@ -27,8 +28,13 @@ pub struct Report {
     /// The sums over the counted files: a row for each combination of extension, state of the attribute `text` and class of line ends that
     /// some file has. This combination is the row's key, and the rows are in the order of their keys.
     pub rows: Vec<TallyRow>,
+    /// The columns that rows are grouped by. The rows of a walk's report are grouped by all columns. In a column that rows are not grouped
+    /// by, each row has a placeholder: no extension, the state `Unspecified`, or no line ends.
+    pub columns: Columns,
     /// The sums over all counted files.
     pub totals: Sums,
+    /// The sums over the counted text files, and over the counted binary files.
+    pub classes: ClassSums,
     /// The number of directories whose listing and rule files were read, the top included.
     pub directories: u64,
     /// The number of entries of the listed directories, skipped entries included. With `--only`, entries that the paths of `--only` do not
@@ -65,9 +71,16 @@ impl Report {
         sort_lines(&mut files);
         sort_lines(&mut faults);
         sort_lines(&mut skipped);
+        let totals = tally.totals();
+        let rows = tally.into_rows();
+        let Some(classes) = ClassSums::of(&rows) else {
+            unreachable!()
+        };
         Report {
-            totals: tally.totals(),
-            rows: tally.into_rows(),
+            rows,
+            columns: Columns::ALL,
+            totals,
+            classes,
             directories,
             entries,
             lists,

@@ -1,16 +1,18 @@
 //! The tally of counted files: the sums over the files of each key, and over all files. A key is an extension, a state of the attribute
 //! `text` and a class of line ends.
 //!
+//! - `classes`: the sums over text files, and over binary files
 //! - `extensions`: the extension of a file's name
 //! - `key`, `sums`, `tally_row`: a row of a tally, which has a key and the sums over the files with this key
 //! - `keyed_rows`: the rows of a tally, found by their keys
 //! - `row_hints`: the last known place of a key's row
 //! - `row_sums`: the sums over rows of several tallies
 ghost use Rattle.std.specs.Prelude.{◌≡◌, ◌+◌, ◌<◌, ◌≤◌, ◌^◌, List, [], ◌∷◌, ◌++◌, option_map, IfOk, IsOk, IsTrue, OnOk, OnErr};
-ghost use Rattle.lc_walk.specs.TallyRows.{AddsUp, has_row};
-ghost use Rattle.lc_walk.specs.Sums.{IsModest};
+ghost use Rattle.lc_walk.specs.TallyRows.{AddsUp, has_row, sums_of_rows};
+ghost use Rattle.lc_walk.specs.Sums.{IsInRange, IsModest};
 ghost use Rattle.lc_walk.specs.Tally.{StandsFor, CountedFile, IsTally, Grows, counted, key_of};
 
+mod classes;
 mod extensions;
 mod key;
 mod keyed_rows;
@@ -19,12 +21,13 @@ mod row_sums;
 mod sums;
 mod tally_row;
 
+pub use classes::ClassSums;
 pub use extensions::extension;
 pub use key::KeyRef;
 use keyed_rows::KeyedRows;
 use lc_census::Count;
 use lc_rules::TextState;
-pub use row_sums::added_up;
+pub use row_sums::{added_up, sums_of_rows};
 use std::alloc::{AllocError, Global};
 use std::marker::Model;
 pub use sums::Sums;
@@ -137,6 +140,7 @@ impl Tally {
     pub fn into_rows(self) -> Vec<TallyRow>
         ensures added_up { AddsUp self.rows result.items }
         ensures tally { (fs : List CountedFile) → StandsFor self fs → IsTally fs result.items }
+        ensures fits { IsInRange (sums_of_rows result.items) }
     {
         let Tally { rows, .. } = self;
         rows.into_sorted()

@@ -5,10 +5,10 @@ use lc_census::{Count, Eol};
 use lc_level::FaultWord;
 use lc_program::{report_text, table};
 use lc_rules::TextState;
-use lc_sheet::TableOptions;
+use lc_sheet::{Columns, TableOptions};
 use lc_tests::writers::{Narrow, WRITERS, WhenFull};
 use lc_text::PrintFault;
-use lc_walk::{FaultLine, FileLine, Report, ReportLists, Sums, TallyRow};
+use lc_walk::{ClassSums, FaultLine, FileLine, Report, ReportLists, Sums, TallyRow};
 use std::alloc::{AllocError, Global};
 use std::process::Abort;
 use std::test::Fail;
@@ -202,9 +202,13 @@ pub(super) fn report_of(alloc: Global, case: &Case) -> Result<Report, AllocError
         blank: u128::from(blank),
         bytes: u128::from(bytes),
     };
+    let rows = rows_of(alloc, case)?;
+    let classes = ClassSums::of(&rows).ok_or(AllocError)?;
     Ok(Report {
-        rows: rows_of(alloc, case)?,
+        rows,
+        columns: Columns::ALL,
         totals,
+        classes,
         directories: case.directories,
         entries: 0,
         lists: ReportLists {

@@ -2,7 +2,8 @@
 
 use lc_census::{Count, Eol};
 use lc_rules::TextState;
-use lc_walk::{FileLine, Report, ReportLists, Sums, TallyRow};
+use lc_sheet::Columns;
+use lc_walk::{ClassSums, FileLine, Report, ReportLists, Sums, TallyRow};
 use std::alloc::{AllocError, Global};
 
 /// A file: its path, and its lines, blank lines and bytes.
@@ -85,9 +86,13 @@ pub(super) fn report_of(
     totals: [u64; 4],
     files: &[File],
 ) -> Result<Report, AllocError> {
+    let rows = rows_of(alloc, rows)?;
+    let classes = ClassSums::of(&rows).ok_or(AllocError)?;
     Ok(Report {
-        rows: rows_of(alloc, rows)?,
+        rows,
+        columns: Columns::ALL,
         totals: sums(totals),
+        classes,
         directories: 1,
         entries: 0,
         lists: ReportLists {

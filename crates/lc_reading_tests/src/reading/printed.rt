@@ -1,9 +1,10 @@
 //! Tests of reports that are read from JSON and printed again.
 
 use lc_formats::text;
-use lc_reading::{ReadFault, ReadReport, read_reports};
+use lc_reading::{ReadFault, read_reports};
 use lc_rows::Shown;
 use lc_sheet::{Columns, Format, TableOptions};
+use lc_walk::Report;
 use std::alloc::{AllocError, Global};
 use std::process::Abort;
 use std::test::Fail;
@@ -138,26 +139,18 @@ const CASES: &[Case] = &[
     },
 ];
 
-fn text_of(
-    alloc: Global,
-    read: &ReadReport,
-    by: Columns,
-    files: bool,
-) -> Result<Vec<u8>, AllocError> {
+fn text_of(alloc: Global, read: &Report, by: Columns, files: bool) -> Result<Vec<u8>, AllocError> {
     let options = TableOptions {
         by: Columns { dir: None, ..by },
         files,
         ..ROWS
     };
-    let shown = Shown::of(alloc, &read.report, &options)?;
+    let shown = Shown::of(alloc, read, &options)?;
     text(alloc, options.format, &shown.sheet())
 }
 
 /// Returns the reports of a text, if it is read.
-pub(super) fn reports_of(
-    alloc: Global,
-    text: &[u8],
-) -> Result<Option<Vec<ReadReport>>, AllocError> {
+pub(super) fn reports_of(alloc: Global, text: &[u8]) -> Result<Option<Vec<Report>>, AllocError> {
     match read_reports(alloc, text) {
         Ok(reports) => Ok(Some(reports)),
         Err(ReadFault::Memory) => Err(AllocError),

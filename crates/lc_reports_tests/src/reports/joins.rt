@@ -1,4 +1,4 @@
-//! Tests of joined reports: the sums, the optional lists, and the lines that are kept only once.
+//! Tests of joined reports: the sums, the columns, the optional lists, and the lines that are kept only once.
 
 use crate::reports::reading::reports_of;
 use crate::reports::telling::report_text;
@@ -109,6 +109,26 @@ const SUMS: &[Case] = &[
     ),
 ];
 
+const PARTS: &[Case] = &[
+    (
+        "text and binary files",
+        &[
+            "no-text\ntotal 3 9 2 40\ntext 2 8 2 30\nbinary 1 1 0 10",
+            "no-text\nno-eol\ntotal 5 5 5 5\ntext 1 1 1 1\nbinary 4 4 4 4",
+        ],
+        "no-text
+         no-eol
+         total 8 14 7 45
+         text 3 9 3 31
+         binary 5 5 4 14",
+    ),
+    (
+        "no column is in both",
+        &["no-text\nno-eol", "no-ext"],
+        "no-ext\nno-text\nno-eol",
+    ),
+];
+
 const LISTED: &str = "
     file - lf 1 0 2 x.c
     left git .git/
@@ -208,6 +228,11 @@ fn check_all(rt: &impl Abort, alloc: Global, cases: &[Case]) -> Result<(), Fail>
 #[test]
 fn numbers_are_added_up(rt: HostRuntime) -> Result<(), Fail> {
     check_all(&rt, rt.alloc(), SUMS)
+}
+
+#[test]
+fn parts_are_added_up_and_columns_shared(rt: HostRuntime) -> Result<(), Fail> {
+    check_all(&rt, rt.alloc(), PARTS)
 }
 
 #[test]

@@ -59,6 +59,17 @@ const TOO_LARGE: &[Case] = &[
         ],
     ),
     (
+        "the lines of text files",
+        &[
+            "text 1 340282366920938463463374607431768211455 0 0",
+            "text 1 1 0 0",
+        ],
+    ),
+    (
+        "binary files",
+        &["binary 18446744073709551615 0 0 0", "binary 1 0 0 0"],
+    ),
+    (
         "directories",
         &["directories 18446744073709551615", "directories 1"],
     ),

@@ -3,9 +3,10 @@
 use lc_census::Count;
 use lc_level::{FaultWord, Reason};
 use lc_rules::RuleSource;
+use lc_sheet::Columns;
 use lc_tests::{eol_of_word, text_of_word};
 use lc_tree::{Kind, OtherKind};
-use lc_walk::{FaultLine, FileLine, Report, ReportLists, SkippedLine, Sums, TallyRow};
+use lc_walk::{ClassSums, FaultLine, FileLine, Report, ReportLists, SkippedLine, Sums, TallyRow};
 use std::alloc::{AllocError, Global};
 use std::str::SplitAsciiWhitespace;
 
@@ -149,7 +150,12 @@ fn skipped(alloc: Global, words: &mut SplitAsciiWhitespace<'_>) -> Result<Skippe
 fn nothing(alloc: Global) -> Report {
     Report {
         rows: Vec::new(alloc),
+        columns: Columns::ALL,
         totals: Sums::none(),
+        classes: ClassSums {
+            text: Sums::none(),
+            binary: Sums::none(),
+        },
         directories: 0,
         entries: 0,
         lists: ReportLists {
@@ -167,6 +173,11 @@ fn put_line(alloc: Global, report: &mut Report, line: &str) -> Result<(), AllocE
     match next(&mut words) {
         "row" => report.rows.push(row(alloc, &mut words)?)?,
         "total" => report.totals = sums(&mut words),
+        "text" => report.classes.text = sums(&mut words),
+        "binary" => report.classes.binary = sums(&mut words),
+        "no-ext" => report.columns.ext = false,
+        "no-text" => report.columns.text = false,
+        "no-eol" => report.columns.eol = false,
         "directories" => report.directories = small_number(&mut words),
         "entries" => report.entries = small_number(&mut words),
         "no-files" => report.lists.files = false,
@@ -184,7 +195,8 @@ fn put_line(alloc: Global, report: &mut Report, line: &str) -> Result<(), AllocE
 /// | Line | What the report has |
 /// |---|---|
 /// | `row .c - lf 2 10 1 80` | a row: the extension, the attribute `text`, the line ends; files, lines, blank lines, bytes |
-/// | `total 2 10 1 80` | these totals |
+/// | `no-ext`, `no-text`, `no-eol` | no such column of rows |
+/// | `total 2 10 1 80`, `text 1 9 1 70`, `binary 1 1 0 10` | these totals, and these sums over text and over binary files |
 /// | `directories 2`, `entries 7` | these numbers |
 /// | `no-files`, `no-left` | no list of files, or of skipped entries |
 /// | `file - lf 5 1 40 src/a.c` | a file: the attribute `text`, the line ends; lines, blank lines, bytes; the path |

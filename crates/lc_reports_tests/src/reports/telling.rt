@@ -1,6 +1,7 @@
 //! Writing reports as lines of text, in the form that `reading` reads.
 
 use lc_level::Reason;
+use lc_sheet::Columns;
 use lc_tests::{eol_word, push_kind, push_name, text_word};
 use lc_text::{PathStyle, push_rule_source};
 use lc_walk::{FileLine, Report, SkippedLine, Sums, TallyRow};
@@ -30,11 +31,34 @@ fn push_row(text: &mut String, row: &TallyRow) -> Result<(), AllocError> {
     push_sums(text, row.sums())
 }
 
-fn push_numbers(text: &mut String, report: &Report) -> Result<(), AllocError> {
-    if report.totals != Sums::none() {
-        text.push_str("total ")?;
-        push_sums(text, report.totals)?;
+/// Appends a line of sums, unless they are those of no files.
+fn push_named(text: &mut String, name: &str, sums: Sums) -> Result<(), AllocError> {
+    if sums == Sums::none() {
+        return Ok(());
     }
+    text.push_str(name)?;
+    text.push_str(" ")?;
+    push_sums(text, sums)
+}
+
+/// Appends a line for each column that rows are not grouped by.
+fn push_columns(text: &mut String, columns: Columns) -> Result<(), AllocError> {
+    if !columns.ext {
+        text.push_str("no-ext\n")?;
+    }
+    if !columns.text {
+        text.push_str("no-text\n")?;
+    }
+    if !columns.eol {
+        text.push_str("no-eol\n")?;
+    }
+    Ok(())
+}
+
+fn push_numbers(text: &mut String, report: &Report) -> Result<(), AllocError> {
+    push_named(text, "total", report.totals)?;
+    push_named(text, "text", report.classes.text)?;
+    push_named(text, "binary", report.classes.binary)?;
     if report.directories != 0 {
         write!(text, "directories {}\n", report.directories)?;
     }
@@ -110,12 +134,13 @@ fn push_left(text: &mut String, report: &Report) -> Result<(), AllocError> {
     Ok(())
 }
 
-/// Returns the lines of a report: rows, numbers that are not 0, files, skipped entries, errors.
+/// Returns the lines of a report: rows, columns that are missing, numbers that are not 0, files, skipped entries, errors.
 pub(super) fn report_text(alloc: Global, report: &Report) -> Result<String, AllocError> {
     let mut text = String::new(alloc);
     for row in &report.rows {
         push_row(&mut text, row)?;
     }
+    push_columns(&mut text, report.columns)?;
     push_numbers(&mut text, report)?;
     push_files(&mut text, report)?;
     push_left(&mut text, report)?;

@@ -5,12 +5,12 @@ ghost use Rattle.std.specs.Prelude.{◌≡◌, true, IfOk};
 use crate::rows::files::{BY_DIRECTORY, File, NONE, file_lines, sums};
 use lc_census::Eol;
 use lc_level::{FaultWord, Reason};
-use lc_rows::{ClassSums, ReportSheet, Shown};
+use lc_rows::{ReportSheet, Shown};
 use lc_rules::{RuleSource, TextState};
-use lc_sheet::{Format, Lines, Number, Section, TableOptions, Value};
+use lc_sheet::{Columns, Format, Lines, Number, Section, TableOptions, Value};
 use lc_text::push_name;
 use lc_tree::Kind;
-use lc_walk::{FaultLine, Report, ReportLists, SkippedLine};
+use lc_walk::{ClassSums, FaultLine, Report, ReportLists, SkippedLine};
 use std::alloc::{AllocError, Global};
 use std::io::Write;
 use std::process::Abort;
@@ -37,8 +37,8 @@ src * * * 1 7 0 50
 others * * * 1 3 1 15 
 
 total * * * 3 14 2 74 
-text * * * 0 0 0 0 
-binary * * * 0 0 0 0 
+text * * * 2 11 1 59 
+binary * * * 1 3 1 15 
 
 - lf 4 1 9 Makefile 
 set lf 7 0 50 src/main.c 
@@ -55,23 +55,8 @@ const SHARED: &str = "src 1 7 0 50 7/14 7/7
 others 1 3 1 15 3/14 ! 
 
 total 3 14 2 74 14/14 ! 
-text 0 0 0 0 0/14 ! 
-binary 0 0 0 0 0/14 ! 
-
-rule src/.gitignore:3 src/gen/ 
-
-read src/locked 
-
-";
-
-const CLASSED: &str = ". * * * 1 4 1 9 
-src * * * 1 7 0 50 
-
-others * * * 1 3 1 15 
-
-total * * * 3 14 2 74 
-text * * * 2 11 1 59 
-binary * * * 1 3 1 15 
+text 2 11 1 59 11/14 ! 
+binary 1 3 1 15 3/14 ! 
 
 rule src/.gitignore:3 src/gen/ 
 
@@ -98,7 +83,12 @@ fn report(alloc: Global) -> Result<Report, AllocError>
     })?;
     Ok(Report {
         rows: Vec::new(alloc),
+        columns: Columns::ALL,
         totals: sums([3, 14, 2, 74]),
+        classes: ClassSums {
+            text: sums([2, 11, 1, 59]),
+            binary: sums([1, 3, 1, 15]),
+        },
         directories: 3,
         entries: 6,
         lists: ReportLists {
@@ -181,26 +171,5 @@ fn shares_and_bars(rt: HostRuntime) -> Result<(), Fail> {
     };
     let text = text_of(rt.alloc(), &options)?;
     assert!(rt; text.as_slice() == SHARED.as_bytes());
-    Ok(())
-}
-
-#[test]
-fn sums_over_text_and_binary_files_may_be_given(rt: HostRuntime) -> Result<(), Fail> {
-    let classes = ClassSums {
-        text: sums([2, 11, 1, 59]),
-        binary: sums([1, 3, 1, 15]),
-        some_binary: true,
-    };
-    let options = TableOptions {
-        files: false,
-        ..TSV
-    };
-    let report = report(rt.alloc())?;
-    let shown = Shown::with_classes(rt.alloc(), &report, classes, &options)?;
-    let sheet = shown.sheet();
-    assert!(rt; sheet.some_binary);
-    let mut text = Vec::new(rt.alloc());
-    push_sheet(&mut text, &sheet)?;
-    assert!(rt; text.as_slice() == CLASSED.as_bytes());
     Ok(())
 }

@@ -1,6 +1,5 @@
 //! Tests of what a table needs of the reports that are summed.
 
-use lc_reading::RowColumns;
 use lc_sheet::{Column, Columns, Comparison, Condition, Number, Test};
 use lc_sums::Needs;
 use std::process::Abort;
@@ -20,8 +19,13 @@ fn among(column: Column) -> Condition<'static> {
     }
 }
 
-fn columns(ext: bool, text: bool, eol: bool) -> RowColumns {
-    RowColumns { ext, text, eol }
+fn columns(ext: bool, text: bool, eol: bool) -> Columns {
+    Columns {
+        dir: None,
+        ext,
+        text,
+        eol,
+    }
 }
 
 #[test]

@@ -2,14 +2,14 @@
 
 use crate::sums::reading::{Text, parts_of};
 use crate::sums::texts::{BY_EOL, BY_EXT, FILES, LARGEST, SKIPPED};
-use lc_reading::RowColumns;
-use lc_sheet::Column;
+use lc_sheet::{Column, Columns};
 use lc_sums::{Needs, SumFault, summed};
 use std::alloc::{AllocError, Global};
 use std::process::Abort;
 use std::test::Fail;
 
-const NO_COLUMNS: RowColumns = RowColumns {
+const NO_COLUMNS: Columns = Columns {
+    dir: None,
     ext: false,
     text: false,
     eol: false,
@@ -23,7 +23,7 @@ const NOTHING: Needs = Needs {
 };
 
 const EXT: Needs = Needs {
-    columns: RowColumns {
+    columns: Columns {
         ext: true,
         ..NO_COLUMNS
     },
@@ -31,7 +31,7 @@ const EXT: Needs = Needs {
 };
 
 const TEXT_AND_EOL: Needs = Needs {
-    columns: RowColumns {
+    columns: Columns {
         text: true,
         eol: true,
         ..NO_COLUMNS
@@ -40,7 +40,7 @@ const TEXT_AND_EOL: Needs = Needs {
 };
 
 const EOL: Needs = Needs {
-    columns: RowColumns {
+    columns: Columns {
         eol: true,
         ..NO_COLUMNS
     },

@@ -2,10 +2,9 @@
 
 use crate::sums::reading::{Text, parts_of};
 use crate::sums::texts::{BY_EOL, BY_EXT, FILES, NOTHING, SKIPPED};
-use lc_reading::RowColumns;
 use lc_sheet::Columns;
-use lc_sums::{Needs, Sum, SumFault, summed};
-use lc_walk::Sums;
+use lc_sums::{Needs, SumFault, summed};
+use lc_walk::{Report, Sums};
 use std::alloc::{AllocError, Global};
 use std::process::Abort;
 use std::test::Fail;
@@ -20,7 +19,7 @@ fn sums([files, lines, blank, bytes]: [u64; 4]) -> Sums {
 }
 
 /// Sums reports, if they can be summed.
-fn sum_of(alloc: Global, needs: Needs, texts: &[Text]) -> Result<Option<Sum>, AllocError> {
+fn sum_of(alloc: Global, needs: Needs, texts: &[Text]) -> Result<Option<Report>, AllocError> {
     let parts = parts_of(alloc, texts)?;
     match summed(alloc, parts, needs) {
         Ok(sum) => Ok(Some(sum)),
@@ -37,19 +36,21 @@ fn reports_of_files_are_joined(rt: HostRuntime) -> Result<(), Fail> {
         assert!(rt; false, "not summed");
         return Ok(());
     };
-    assert!(rt; sum.columns == RowColumns::all());
-    assert!(rt; sum.report.totals == sums([3, 6, 2, 34]));
-    assert!(rt; sum.text == sums([3, 6, 2, 34]) && sum.binary == sums([0, 0, 0, 0]));
-    assert!(rt; sum.report.rows.len() == 1 && sum.report.directories == 2);
-    assert!(rt; sum.report.lists.files && !sum.report.lists.left_out);
-    let [a, b, c] = sum.report.files.as_slice() else {
+    assert!(rt; sum.columns == Columns::ALL);
+    assert!(rt; sum.totals == sums([3, 6, 2, 34]));
+    assert!(rt;
+        sum.classes.text == sums([3, 6, 2, 34]) && sum.classes.binary == sums([0, 0, 0, 0])
+    );
+    assert!(rt; sum.rows.len() == 1 && sum.directories == 2);
+    assert!(rt; sum.lists.files && !sum.lists.left_out);
+    let [a, b, c] = sum.files.as_slice() else {
         assert!(rt; false, "three files");
         return Ok(());
     };
     assert!(rt; a.path.as_slice() == b"a.c".as_slice());
     assert!(rt; b.path.as_slice() == b"b.c".as_slice());
     assert!(rt; c.path.as_slice() == b"src/b.c".as_slice());
-    assert!(rt; sum.report.skipped.is_empty());
+    assert!(rt; sum.skipped.is_empty());
     Ok(())
 }
 
@@ -61,7 +62,7 @@ fn a_report_of_no_files_lists_all_of_them(rt: HostRuntime) -> Result<(), Fail> {
         assert!(rt; false, "not summed");
         return Ok(());
     };
-    assert!(rt; sum.report.lists.files && sum.report.files.len() == 2);
+    assert!(rt; sum.lists.files && sum.files.len() == 2);
     Ok(())
 }
 
@@ -73,9 +74,9 @@ fn lists_that_are_not_needed_are_dropped(rt: HostRuntime) -> Result<(), Fail> {
         assert!(rt; false, "not summed");
         return Ok(());
     };
-    assert!(rt; sum.report.files.is_empty() && !sum.report.lists.files);
-    assert!(rt; sum.report.skipped.len() == 1 && sum.report.lists.left_out);
-    assert!(rt; sum.report.entries == 3);
+    assert!(rt; sum.files.is_empty() && !sum.lists.files);
+    assert!(rt; sum.skipped.len() == 1 && sum.lists.left_out);
+    assert!(rt; sum.entries == 3);
     Ok(())
 }
 
@@ -87,16 +88,19 @@ fn columns_of_some_reports_are_not_shared(rt: HostRuntime) -> Result<(), Fail> {
         assert!(rt; false, "not summed");
         return Ok(());
     };
-    let ext = RowColumns {
+    let ext = Columns {
+        dir: None,
         ext: true,
         text: false,
         eol: false,
     };
     assert!(rt; sum.columns == ext);
-    assert!(rt; sum.report.totals == sums([4, 14, 3, 90]));
-    assert!(rt; sum.text == sums([3, 12, 3, 80]) && sum.binary == sums([1, 2, 0, 10]));
+    assert!(rt; sum.totals == sums([4, 14, 3, 90]));
+    assert!(rt;
+        sum.classes.text == sums([3, 12, 3, 80]) && sum.classes.binary == sums([1, 2, 0, 10])
+    );
     // One report has no line ends, so its row is another one.
-    assert!(rt; sum.report.rows.len() == 2 && sum.report.faults.len() == 1);
+    assert!(rt; sum.rows.len() == 2 && sum.faults.len() == 1);
     Ok(())
 }
 
@@ -114,14 +118,9 @@ fn binary_files_are_summed_without_rows(rt: HostRuntime) -> Result<(), Fail> {
         assert!(rt; false, "not summed");
         return Ok(());
     };
+    assert!(rt; sum.columns == by_nothing);
     assert!(rt;
-        sum.columns
-            == RowColumns {
-                ext: false,
-                text: false,
-                eol: false
-            }
+        sum.classes.text == sums([4, 11, 1, 70]) && sum.classes.binary == sums([2, 3, 0, 18])
     );
-    assert!(rt; sum.text == sums([4, 11, 1, 70]) && sum.binary == sums([2, 3, 0, 18]));
     Ok(())
 }

@@ -8,7 +8,7 @@ use crate::tally::sums::Sums;
 use crate::tally::tally_row::TallyRow;
 
 /// Returns the sums over all rows, or `None` if a sum does not fit its type.
-fn sums_of_rows(rows: &[TallyRow]) -> Option<Sums>
+pub fn sums_of_rows(rows: &[TallyRow]) -> Option<Sums>
     ensures { MatchOption result (IsInRange (sums_of_rows rows.now) → ⊥) (λ sums. sums ≡ sums_of_rows rows.now) }
 {
     let mut sums = Sums::none();

@@ -1,4 +1,4 @@
-use Rattle.std.proofs.Common.{inr, refl}
+use Rattle.std.proofs.Common.{inr}
 use Rattle.lc_program.proofs.SidesGiven.{side_unread}
 use Rattle.lc_program.specs.Systems.{SystemMay, may_of}
 use Rattle.lc_program.proofs.sides.read_side.Goals as goal
@@ -11,7 +11,7 @@ returns-in_err-parts-clause-reads g c =
     c.in_err-parts.field-0.0 c.from_residual.ensures.1 c.in_err-parts.ensures.refused
 
 pub returns-in-Ok-clause-reads : goal.returns-in-Ok-clause-reads
-returns-in-Ok-clause-reads g c = (c.in_ok-parts.parts, c.in_ok-parts.ensures.parts, (c.in-Ok.sum, c.in-Ok.ensures, refl))
+returns-in-Ok-clause-reads g c = (c.in_ok-parts.parts, c.in_ok-parts.ensures.parts, c.in-Ok.ensures)
 
 pub returns-in-Err-clause-reads : goal.returns-in-Err-clause-reads
 returns-in-Err-clause-reads g c =
