@@ -4,8 +4,8 @@ ghost use Rattle.std.specs.Prelude.{◌≡◌, ◌++◌, OnOk};
 ghost use Rattle.json.specs.Tree.{json_tokens};
 ghost use Rattle.lc_sheet.specs.Sheets.{line_of};
 ghost use Rattle.lc_sheet.specs.Values.{value_model};
-ghost use Rattle.lc_formats.specs.JsonLines.{change_object, column_in, compared_column, is_missing, lacks, lacks_in, members_in, part_members};
-ghost use Rattle.lc_formats.specs.JsonLines.{side_value};
+ghost use Rattle.lc_formats.specs.JsonLines.{change_object, column_in, compared_column, is_missing, lacks, lacks_in, members_in};
+ghost use Rattle.lc_formats.specs.JsonLines.{part_members, side_value};
 ghost use Rattle.lc_formats.specs.JsonTokens.{members_tokens_of};
 
 use crate::json_values::write_value;

@@ -17,15 +17,16 @@ pub fn reports_are_joined_in_one_way()
     ensures { JoinOnceLaw }
 {}
 
-/// The law that a joined report adds up if each report that was joined adds up. A report adds up if its totals are the sums over its rows.
-/// If the report lists files, its rows and totals must also be the sums over these files.
+/// The law that a joined report adds up if each report that was joined adds up. A report adds up if its totals are the sums over its rows,
+/// and also its sums over text and over binary files together. If the report lists files, its rows and totals must also be the sums over
+/// these files.
 pub fn totals_of_a_joined_report_add_up()
     ensures { JoinTotalsLaw }
 {}
 
 /// The law that if a report adds up, it still adds up after `named` has put a name in front of its paths. A report adds up if its totals
-/// are the sums over its rows. If the report lists files, its rows and totals must also be the sums over these files. The law requires that
-/// no file of the report has the empty path.
+/// are the sums over its rows, and also its sums over text and over binary files together. If the report lists files, its rows and totals
+/// must also be the sums over these files. The law requires that no file of the report has the empty path.
 pub fn names_change_no_number()
     ensures { NameTotalsLaw }
 {}

@@ -15,8 +15,8 @@ pub fn conditions_have_no_order()
 {}
 
 /// The law that if the totals of a report are right, the totals of the part that meets conditions are right too. Right totals are the sums
-/// over the rows. If the report lists its files, right totals are also the sums over the files, and the rows add up these files by key. The
-/// report of a walk has right totals.
+/// over the rows, and also the sums over text and over binary files together. If the report lists its files, right totals are also the sums
+/// over the files, and the rows add up these files by key. The report of a walk has right totals.
 pub fn conditions_keep_totals()
     ensures { KeptTotalsLaw }
 {}

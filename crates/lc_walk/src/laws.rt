@@ -82,9 +82,9 @@ pub fn entries_are_accounted_for<T: Tree>(tree: &T)
     let _tree = tree;
 }
 
-/// The law that the totals of a walk's report are the sums of its rows. If the report lists its files, the totals are also the sums of the
-/// files. In this case, each row has the sums of the files that have the row's extension, state of the attribute `text` and class of line
-/// ends.
+/// The law that the totals of a walk's report are the sums of its rows, and also its sums over text and over binary files together. If the
+/// report lists its files, the totals are also the sums of the files. In this case, each row has the sums of the files that have the row's
+/// extension, state of the attribute `text` and class of line ends.
 pub fn totals_of_a_report_add_up<T: Tree>(tree: &T)
     ensures { ReportTotalsLaw (T.lists tree.now) (T.gives tree.now) }
 {

@@ -1,5 +1,5 @@
 use Rattle.std.proofs.Common.{◌∙◌, ap, map}
-use Rattle.lc_arguments.specs.{Reports.report_model, TableWords.options_in}
+use Rattle.lc_arguments.specs.Reports.{report_model}
 use Rattle.lc_program.specs.{Counts.one_text, Sums.typed_text}
 use Rattle.lc_program.proofs.Printing.{sum_stopped}
 use Rattle.lc_program.proofs.summing.print_sum.Goals as goal
