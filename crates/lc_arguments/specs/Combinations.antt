@@ -2,26 +2,27 @@
 use Rattle.std.specs.Prelude.{◌&&◌, ◌||◌, ℕ, Bool, true, false, not, is_some, length, nat_lt, List, Option, Some, None, codes}
 use Rattle.std.specs.{Option.option_map_or, Str.bytes_eq}
 use Rattle.clap.specs.Walk.{is_empty}
-use Rattle.lc_sheet.specs.declared.table_options.{Columns.Columns, Format.{Format, TheVariants.{Table, Csv, Markdown, Html}}}
+use Rattle.lc_sheet.specs.declared.table_options.{Columns.Columns, Format.TheVariants.{Table, Csv, Markdown}}
+use Rattle.lc_sheet.specs.declared.table_options.Output.{Output, TheVariants.{Text, Picture}}
 use Rattle.lc_sheet.specs.declared.table_options.Order.{Order, TheVariants.Name}
 use Rattle.lc_arguments.specs.declared.{count.CountRequest.CountRequest, diff.DiffRequest.DiffRequest}
 use Rattle.lc_arguments.specs.declared.{walk_request.WalkRequest.WalkRequest, table.TableRequest.TableRequest}
 
 -- the named format shows each row's share of the total if `--share` is used; without a named format, `--share` means a table, which does
-abbrev pub shows_shares : Option Format → Bool
+abbrev pub shows_shares : Option Output → Bool
 shows_shares None = true
-shows_shares (Some Table) = true
-shows_shares (Some Markdown) = true
+shows_shares (Some (Text Table)) = true
+shows_shares (Some (Text Markdown)) = true
 shows_shares _ = false
 
 -- `--format csv` was typed: the format that has records of one kind only
-abbrev pub has_one_kind : Option Format → Bool
-has_one_kind (Some Csv) = true
+abbrev pub has_one_kind : Option Output → Bool
+has_one_kind (Some (Text Csv)) = true
 has_one_kind _ = false
 
--- `--format html` was typed: the format that is a picture
-abbrev pub is_picture : Option Format → Bool
-is_picture (Some Html) = true
+-- `--format html` was typed, which names a picture
+abbrev pub is_picture : Option Output → Bool
+is_picture (Some Picture) = true
 is_picture _ = false
 
 -- `--sort name` was typed: the order that sorts by no number

@@ -9,7 +9,7 @@ use Rattle.lc_arguments.specs.Words.{AreFiltersOf, IsFitCountOf, IsFitSumOf, Are
 use Rattle.lc_arguments.specs.Words.{is_bad_part, part_of, reports_read, texts_read, values_read, AsksNoDiff, AsksNoWalk, IsDiffOf}
 use Rattle.lc_arguments.specs.{Words.{IsFitDiffOf, IsWalkOf}, ReadNumbers.{AreCutsIn, AreNumbersIn}, Directories.{are_distinct, unslashed}}
 use Rattle.lc_arguments.specs.{Repeated.are_allowed, Reports.{name_reports, named_of, report_model}, TableWords.{AreColumnsBy, IsTableBy}}
-use Rattle.lc_arguments.specs.{TableWords.{format_word, order_word}, declared.numbers.{Cuts.Cuts, Numbers.Numbers}}
+use Rattle.lc_arguments.specs.{TableWords.{order_word, output_word}, declared.numbers.{Cuts.Cuts, Numbers.Numbers}}
 use Rattle.lc_arguments.specs.declared.{repeated.Repeated.Repeated, table.TableRequest.TableRequest}
 use Rattle.lc_arguments.specs.declared.request.ParseExit.{ParseExit, TheVariants.{Shown, Refused, Memory}}
 use Rattle.lc_arguments.specs.declared.request.Request.{Request, TheVariants.CheckJoined}
@@ -17,7 +17,7 @@ use Rattle.lc_arguments.specs.declared.{check.CheckRequest.CheckRequest, count.C
 use Rattle.lc_arguments.specs.declared.{filter_request.FilterRequest.FilterRequest, explain.ExplainRequest.ExplainRequest}
 use Rattle.lc_arguments.specs.declared.{reports.NamedReport.NamedReport, sum.SumRequest.SumRequest, diff.DiffRequest.DiffRequest}
 use Rattle.lc_arguments.specs.declared.walk_request.WalkRequest.{WalkRequest}
-use Rattle.lc_sheet.specs.{Conditions.ConditionModel, declared.table_options.{Columns.Columns, Format.Format, Order.Order}}
+use Rattle.lc_sheet.specs.{Conditions.ConditionModel, declared.table_options.{Columns.Columns, Order.Order, Output.Output}}
 
 -- what an error of clap becomes: a text of help or of the version is shown; any other error refuses the words, unless memory runs out
 abbrev pub Explains : Error → ParseExit → Type 0
@@ -121,8 +121,8 @@ abbrev pub AnswersBy : {A : Type 0} → (A → Type 0) → Result A ParseExit �
 AnswersBy {A} Is = AnswersOr Is ((a : A) → ¬ Is a)
 
 -- the format of this name, if there is a name
-abbrev pub AnswersFormat : Option (List ℕ) → Result (Option Format) ParseExit → Type 0
-AnswersFormat name = AnswersBy (λ (format : Option Format). option_map format_word format ≡ name)
+abbrev pub AnswersFormat : Option (List ℕ) → Result (Option Output) ParseExit → Type 0
+AnswersFormat name = AnswersBy (λ (format : Option Output). option_map output_word format ≡ name)
 
 -- the order of this name, if there is a name
 abbrev pub AnswersSort : Option (List ℕ) → Result (Option Order) ParseExit → Type 0

@@ -2,18 +2,20 @@
 use Rattle.std.specs.Prelude.{◌≡◌, ◌||◌, ℕ, ◌+◌, Bool, true, false, cond, List, length, filter, Option, Some, None, option_map, unwrap_or}
 use Rattle.std.specs.{Prelude.{is_some, codes, IfSome}, Str.bytes_eq}
 use Rattle.lc_glob.specs.Pieces.{pieces_of}
-use Rattle.lc_sheet.specs.declared.table_options.{Columns.Columns, Format.{Format, TheVariants.{Tsv, Table, Json, Csv, Markdown, Html}}}
+use Rattle.lc_sheet.specs.declared.table_options.{Columns.Columns, Format.{Format, TheVariants.{Tsv, Table, Json, Csv, Markdown}}}
+use Rattle.lc_sheet.specs.declared.table_options.Output.{Output, TheVariants.{Text, Picture}}
 use Rattle.lc_sheet.specs.declared.table_options.{Order.{Order, TheVariants.{Name, Largest}}, TableOptions.TableOptions}
 use Rattle.lc_sheet.specs.declared.column.Number.{Number, TheVariants.{Files, Lines, Blank, Bytes}}
 use Rattle.lc_arguments.specs.declared.table.TableRequest.{TableRequest}
 
-abbrev pub format_word : Format → List ℕ
-format_word Tsv = codes "tsv"
-format_word Table = codes "table"
-format_word Json = codes "json"
-format_word Csv = codes "csv"
-format_word Markdown = codes "markdown"
-format_word Html = codes "html"
+-- the word of `--format` that names an output
+abbrev pub output_word : Output → List ℕ
+output_word (Text Tsv) = codes "tsv"
+output_word (Text Table) = codes "table"
+output_word (Text Json) = codes "json"
+output_word (Text Csv) = codes "csv"
+output_word (Text Markdown) = codes "markdown"
+output_word Picture = codes "html"
 
 abbrev pub sort_word : Number → List ℕ
 sort_word Files = codes "files"
@@ -67,39 +69,39 @@ AreColumnsBy (Some text) depth None = ⊥
 
 -- the table that the texts of `--format`, `--by` and `--sort` and the number of `--depth` request, each only if it was typed
 pub record IsTableBy (format by : Option (List ℕ)) (depth : Option ℕ) (sort : Option (List ℕ)) (s : TableRequest) : Type 0 where
-  pub format_is : option_map format_word s.format ≡ format
+  pub format_is : option_map output_word s.format ≡ format
   pub by_is : AreColumnsBy by depth s.by
   pub sort_is : option_map order_word s.sort ≡ sort
 
--- the format: the named one; if none is named, `Table` for a table with shares, and otherwise `other`
-abbrev pub format_in : Format → TableRequest → Format
-format_in other s = unwrap_or s.format (cond s.share Table other)
+-- the output: the named one; if none is named, a text in the format `Table` for a table with shares, and otherwise in `other`
+abbrev pub output_in : Format → TableRequest → Output
+output_in other s = unwrap_or s.format (Text (cond s.share Table other))
 
--- a format for reading, whose rows begin with the largest
-abbrev pub is_for_reading : Format → Bool
-is_for_reading Table = true
-is_for_reading Markdown = true
+-- a text for reading, whose rows begin with the largest
+abbrev pub is_for_reading : Output → Bool
+is_for_reading (Text Table) = true
+is_for_reading (Text Markdown) = true
 is_for_reading _ = false
 
--- the order if none is named: by lines with `--top` or in a format for reading, and otherwise by name
-abbrev pub default_order : Format → Option ℕ → Order
-default_order format top = cond (is_some top || is_for_reading format) (Largest Lines) Name
+-- the order if none is named: by lines with `--top` or in a text for reading, and otherwise by name
+abbrev pub default_order : Output → Option ℕ → Order
+default_order output top = cond (is_some top || is_for_reading output) (Largest Lines) Name
 
 -- the number by which an order sorts; the order by name sorts by no number
 abbrev pub number_of : Order → Option Number
 number_of Name = None
 number_of (Largest number) = Some number
 
--- the order in a format: the named order, or the default order of the format
-abbrev pub order_in : Format → TableRequest → Order
-order_in format s = unwrap_or s.sort (default_order format s.top)
+-- the order of an output: the named order, or its default order
+abbrev pub order_in : Output → TableRequest → Order
+order_in output s = unwrap_or s.sort (default_order output s.top)
 
 -- the options of a table: if no format is named and no shares are shown, the format is `other`; if no columns are named, these columns
 abbrev pub options_in : Format → Columns → TableRequest → TableOptions
 options_in other columns s = record {
-  format = format_in other s;
+  output = output_in other s;
   by = unwrap_or s.by columns;
-  sort = number_of (order_in (format_in other s) s);
+  sort = number_of (order_in (output_in other s) s);
   top = s.top;
   files = s.files;
   share = s.share;

@@ -1,21 +1,24 @@
 //! Options that can't be combined.
 
 ghost use Rattle.std.specs.Prelude.{◌≡◌, is_some, not};
-ghost use Rattle.lc_arguments.specs.Combinations.{asks_for_paths, asks_for_rows, diff_fits, fit_together, is_by_name, is_dash, is_picture};
+ghost use Rattle.lc_arguments.specs.Combinations.{asks_for_paths, asks_for_rows, diff_fits, fit_together, is_by_name, is_dash};
 ghost use Rattle.lc_arguments.specs.Combinations.{narrows, paths_fit, reads_input_once, shows_shares, table_fits, takes_input, walk_fits};
 
 use crate::count::CountRequest;
 use crate::diff::DiffRequest;
 use crate::table::TableRequest;
 use crate::walk_request::WalkRequest;
-use lc_sheet::{Columns, Format, Order};
+use lc_sheet::{Columns, Format, Order, Output};
 
 /// Returns whether the format of `--format` can show each row's share of the total. Without `--format`, `--share` selects the format
 /// `Table`, which can show shares.
-fn shows_shares(format: Option<Format>) -> bool
+fn shows_shares(format: Option<Output>) -> bool
     ensures { result ≡ shows_shares format }
 {
-    matches!(format, None | Some(Format::Table | Format::Markdown))
+    matches!(
+        format,
+        None | Some(Output::Text(Format::Table | Format::Markdown))
+    )
 }
 
 /// Returns whether `--sort` names the order by name, which sorts by no number.
@@ -47,19 +50,18 @@ fn asks_for_rows(table: TableRequest, left_out: bool) -> bool
 pub(crate) fn table_misfit(table: TableRequest, left_out: bool) -> Option<&'static str>
     ensures { is_some result ≡ not (table_fits table left_out) }
 {
-    let format = table.format;
-    if table.share && !shows_shares(format) {
+    if table.share && !shows_shares(table.format) {
         return Some("'--share' needs '--format table' or '--format markdown'");
     }
-    if table.files && left_out && matches!(format, Some(Format::Csv)) {
+    if table.files && left_out && matches!(table.format, Some(Output::Text(Format::Csv))) {
         return Some("'--format csv' prints records of one kind: '--files' or '--left-out'");
     }
-    if matches!(format, Some(Format::Html)) && asks_for_rows(table, left_out) {
+    if table.is_picture() && asks_for_rows(table, left_out) {
         return Some(
             "'--format html' draws a tree: no '--files', '--left-out', '--by <COLUMNS>' or '--top <N>'",
         );
     }
-    if matches!(format, Some(Format::Html)) && is_by_name(table.sort) {
+    if table.is_picture() && is_by_name(table.sort) {
         return Some("'--format html' draws the column of '--sort': files, lines, blank or bytes");
     }
     None
@@ -136,17 +138,11 @@ fn input_misfit(request: &DiffRequest<'_>) -> Option<&'static str>
     None
 }
 
-fn is_picture(format: Option<Format>) -> bool
-    ensures { result ≡ is_picture format }
-{
-    matches!(format, Some(Format::Html))
-}
-
 /// Returns why the options of `lc diff` can't be combined, or `None` if they can.
 pub(crate) fn diff_misfit(request: &DiffRequest<'_>) -> Option<&'static str>
     ensures { is_some result ≡ not (diff_fits request.now) }
 {
-    if is_picture(request.table.format) {
+    if request.table.is_picture() {
         return Some("'--format html' shows no differences");
     }
     if let Some(why) = table_misfit(request.table, false) {

@@ -26,7 +26,7 @@ use std::convert::AsStr;
 pub struct DiffRequest<'w> {
     /// How to count OLD and NEW, if they are directories.
     pub walk: WalkRequest<'w>,
-    /// How the table is printed: without the rows' shares of the total, and not in the format `Html`.
+    /// How the table is printed: without the rows' shares of the total, and not as a picture.
     pub table: TableRequest,
     /// Compare only files that meet all of these conditions.
     pub conditions: Vec<Condition<'w>>,

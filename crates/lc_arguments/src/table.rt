@@ -4,24 +4,25 @@ ghost use Rattle.std.specs.Prelude.{◌≡◌, ◌≢◌, MatchOption, option_ma
 ghost use Rattle.clap.specs.Matches.{found_of};
 ghost use Rattle.clap.specs.Walk.{rows_of};
 ghost use Rattle.lc_sheet.specs.declared.table_options.Columns.{Columns as ColumnsModel};
-ghost use Rattle.lc_sheet.specs.declared.table_options.Format.{Format as FormatModel};
 ghost use Rattle.lc_sheet.specs.declared.table_options.Order.{Order as OrderModel};
+ghost use Rattle.lc_sheet.specs.declared.table_options.Output.{Output as OutputModel};
+ghost use Rattle.lc_arguments.specs.Combinations.{is_picture};
 ghost use Rattle.lc_arguments.specs.Explained.{AnswersColumns, AnswersFormat, AnswersSort, AnswersTable, AnswersTableIn, IsRefusal};
-ghost use Rattle.lc_arguments.specs.TableWords.{IsColumnsText, default_order, format_in, format_word, is_for_reading, number_of};
-ghost use Rattle.lc_arguments.specs.TableWords.{options_in, order_in, order_word};
+ghost use Rattle.lc_arguments.specs.TableWords.{IsColumnsText, default_order, is_for_reading, number_of, options_in};
+ghost use Rattle.lc_arguments.specs.TableWords.{order_in, order_word, output_in, output_word};
 
 use crate::numbers::Cuts;
 use crate::request::{ParseExit, refused, unfit};
 use clap::ArgMatches;
 use lc_glob::cut_at_first;
-use lc_sheet::{Columns, Format, Number, Order, TableOptions};
+use lc_sheet::{Columns, Format, Number, Order, Output, TableOptions};
 use std::alloc::Global;
 
 /// The table that a command prints, as in `--format table --by ext --sort lines`.
 #[derive(Clone, Copy)]
 pub struct TableRequest {
-    /// The format, if `--format` names one. Without `--format`, `--share` selects the format `Table`.
-    pub format: Option<Format>,
+    /// What `--format` names, if the option is used. Without `--format`, `--share` selects the format `Table`.
+    pub format: Option<Output>,
     /// The columns that `--by` names, if the option is used.
     pub by: Option<Columns>,
     /// The order of rows and files, if one is named.
@@ -34,18 +35,18 @@ pub struct TableRequest {
     pub share: bool,
 }
 
-/// Returns whether a format is human-readable. Rows in such a format begin with the largest, unless `--sort` names another order.
-fn is_for_reading(format: Format) -> bool
-    ensures { result ≡ is_for_reading format }
+/// Returns whether a text is human-readable. Rows in such a text begin with the largest, unless `--sort` names another order.
+fn is_for_reading(output: Output) -> bool
+    ensures { result ≡ is_for_reading output }
 {
-    matches!(format, Format::Table | Format::Markdown)
+    matches!(output, Output::Text(Format::Table | Format::Markdown))
 }
 
-/// Returns the default order: by lines if the table shows only the first rows or its format is human-readable, and otherwise by name.
-fn default_order(format: Format, top: Option<u32>) -> Order
-    ensures { result ≡ default_order format top }
+/// Returns the default order: by lines if the table shows only the first rows or is human-readable, and otherwise by name.
+fn default_order(output: Output, top: Option<u32>) -> Order
+    ensures { result ≡ default_order output top }
 {
-    if top.is_some() || is_for_reading(format) {
+    if top.is_some() || is_for_reading(output) {
         Order::Largest(Number::Lines)
     } else {
         Order::Name
@@ -63,19 +64,26 @@ fn number_of(order: Order) -> Option<Number>
 }
 
 impl TableRequest {
-    /// Returns the named format. If none is named, it is `Table` for a table with shares, and otherwise `other`.
-    fn format_or(self, other: Format) -> Format
-        ensures { result ≡ format_in other self }
+    /// Returns what `--format` names. Without `--format`, it is a text in the format `Table` if shares are shown, and otherwise in `other`.
+    pub fn output(self, other: Format) -> Output
+        ensures { result ≡ output_in other self }
     {
         let default = if self.share { Format::Table } else { other };
-        self.format.unwrap_or(default)
+        self.format.unwrap_or(Output::Text(default))
     }
 
-    /// Returns the order of rows and files in a format: the named order, or the default order.
-    fn order_in(self, format: Format) -> Order
-        ensures { result ≡ order_in format self }
+    /// Returns whether `--format` names a picture.
+    pub fn is_picture(self) -> bool
+        ensures { result ≡ is_picture self.format }
     {
-        self.sort.unwrap_or(default_order(format, self.top))
+        matches!(self.format, Some(Output::Picture))
+    }
+
+    /// Returns the order of rows and files of an output: the named order, or the default order.
+    fn order_in(self, output: Output) -> Order
+        ensures { result ≡ order_in output self }
+    {
+        self.sort.unwrap_or(default_order(output, self.top))
     }
 
     /// Returns the options of the table. If the request names no format, the format is `Table` if shares are shown, and `other` if not. If
@@ -84,11 +92,11 @@ impl TableRequest {
     pub fn options(self, other: Format, columns: Columns) -> TableOptions
         ensures { result ≡ options_in other columns self }
     {
-        let format = self.format_or(other);
+        let output = self.output(other);
         TableOptions {
-            format,
+            output,
             by: self.by.unwrap_or(columns),
-            sort: number_of(self.order_in(format)),
+            sort: number_of(self.order_in(output)),
             top: self.top,
             files: self.files,
             share: self.share,
@@ -96,16 +104,17 @@ impl TableRequest {
     }
 }
 
-fn format_named(name: &str) -> Option<Format>
-    ensures { MatchOption result ((f : FormatModel) → format_word f ≢ name.entry.now) (λ f. format_word f ≡ name.entry.now) }
+/// Returns the output that a value of `--format` names.
+fn output_named(name: &str) -> Option<Output>
+    ensures { MatchOption result ((o : OutputModel) → output_word o ≢ name.entry.now) (λ o. output_word o ≡ name.entry.now) }
 {
     match name {
-        "tsv" => Some(Format::Tsv),
-        "table" => Some(Format::Table),
-        "json" => Some(Format::Json),
-        "csv" => Some(Format::Csv),
-        "markdown" => Some(Format::Markdown),
-        "html" => Some(Format::Html),
+        "tsv" => Some(Output::Text(Format::Tsv)),
+        "table" => Some(Output::Text(Format::Table)),
+        "json" => Some(Output::Text(Format::Json)),
+        "csv" => Some(Output::Text(Format::Csv)),
+        "markdown" => Some(Output::Text(Format::Markdown)),
+        "html" => Some(Output::Picture),
         _ => None,
     }
 }
@@ -155,13 +164,13 @@ fn columns_named(names: &str, depth: u32) -> Option<Columns>
 }
 
 /// Reads the value of `--format`.
-fn format_of(alloc: Global, name: Option<&str>) -> Result<Option<Format>, ParseExit>
+fn format_of(alloc: Global, name: Option<&str>) -> Result<Option<Output>, ParseExit>
     ensures { AnswersFormat (option_map (λ s. s.now) name.entry) result }
 {
     let Some(name) = name else {
         return Ok(None);
     };
-    match format_named(name) {
+    match output_named(name) {
         None => Err(refused(alloc, "format", name, "")),
         format => Ok(format),
     }

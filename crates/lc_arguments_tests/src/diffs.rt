@@ -14,7 +14,7 @@ const DIFFS: &[Case] = &[
     ),
     (
         "diff - . --all --files --sort lines --top 3 --format json",
-        "diff - .: 4 threads, 65536 directories, Json by no columns sorted by Largest(Lines), first 3, files, all rows",
+        "diff - .: 4 threads, 65536 directories, Text(Json) by no columns sorted by Largest(Lines), first 3, files, all rows",
     ),
     (
         "diff -j 2 --max-dirs 9 --exclude *.o --no-ignore --only src -x a b",

@@ -21,7 +21,7 @@ const COUNTS: &[Case] = &[
     ),
     (
         "count --format table --by eol,ext --sort bytes .",
-        "count .: 4 threads, 65536 directories, Table by ext eol sorted by Largest(Bytes)",
+        "count .: 4 threads, 65536 directories, Text(Table) by ext eol sorted by Largest(Bytes)",
     ),
     (
         "count --files --sort lines --top 10 .",
@@ -45,15 +45,15 @@ const COUNTS: &[Case] = &[
     ),
     (
         "count --by ext,dir --format markdown --share .",
-        "count .: 4 threads, 65536 directories, Markdown by dir to 1 ext, shares",
+        "count .: 4 threads, 65536 directories, Text(Markdown) by dir to 1 ext, shares",
     ),
     (
         "count --format html --sort bytes .",
-        "count .: 4 threads, 65536 directories, Html by no columns sorted by Largest(Bytes)",
+        "count .: 4 threads, 65536 directories, Picture by no columns sorted by Largest(Bytes)",
     ),
     (
         "count --depth 256 --by dir --format csv .",
-        "count .: 4 threads, 65536 directories, Csv by dir to 256",
+        "count .: 4 threads, 65536 directories, Text(Csv) by dir to 256",
     ),
     (
         "count --by text,eol,ext .",

@@ -20,7 +20,7 @@ const SUMS: &[Case] = &[
     ),
     (
         "sum --format json --files --left-out --sort bytes --top 2 a",
-        "sum a: Json by no columns sorted by Largest(Bytes), first 2, files, left out",
+        "sum a: Text(Json) by no columns sorted by Largest(Bytes), first 2, files, left out",
     ),
     (
         "sum --where lines>10 --no-binary --share --fail-if-any a",

@@ -85,7 +85,7 @@ fn changed_numbers(format: Format) -> &'static [Column]
     match format {
         Format::Tsv | Format::Csv => &NUMBERS_IN_TURN,
         Format::Json => &NUMBERS_BY_REPORT,
-        Format::Table | Format::Markdown | Format::Html => &NUMBERS_WITH_CHANGES,
+        Format::Table | Format::Markdown => &NUMBERS_WITH_CHANGES,
     }
 }
 
@@ -109,7 +109,7 @@ pub(crate) fn changed_sums_columns(format: Format, rows: &[Column]) -> &[Column]
 {
     match format {
         Format::Json | Format::Csv => &NUMBERS_BY_REPORT,
-        Format::Tsv | Format::Table | Format::Markdown | Format::Html => rows,
+        Format::Tsv | Format::Table | Format::Markdown => rows,
     }
 }
 
@@ -140,7 +140,7 @@ pub(crate) fn file_change_columns(
             columns.extend_from_slice(&[Column::Ext, Column::Change])?;
             columns.extend_from_slice(&VALUES_BY_REPORT)?;
         }
-        Format::Table | Format::Markdown | Format::Html => columns.extend_from_slice(&READ_FILES)?,
+        Format::Table | Format::Markdown => columns.extend_from_slice(&READ_FILES)?,
     }
     Ok(columns)
 }

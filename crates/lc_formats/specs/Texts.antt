@@ -1,6 +1,6 @@
 -- The text of a sheet in a format.
 use Rattle.std.specs.Prelude.{◌≡◌, ℕ, List}
-use Rattle.lc_sheet.specs.{Sheets.SheetModel, declared.table_options.Format.{Format, TheVariants.{Tsv, Table, Json, Csv, Markdown, Html}}}
+use Rattle.lc_sheet.specs.{Sheets.SheetModel, declared.table_options.Format.{Format, TheVariants.{Tsv, Table, Json, Csv, Markdown}}}
 use Rattle.lc_formats.specs.{Csv.csv_of, JsonSheets.{json_of, json_text_of}, JsonText.IsDocument, MarkdownText.markdown_of}
 use Rattle.lc_formats.specs.{TableText.table_of, Tsv.tsv_of}
 
@@ -11,4 +11,3 @@ IsTextIn Table s text = text ≡ table_of s
 IsTextIn Json s text = (text ≡ json_text_of s) × IsDocument (json_of s) text
 IsTextIn Csv s text = text ≡ csv_of s
 IsTextIn Markdown s text = text ≡ markdown_of s
-IsTextIn Html s text = text ≡ table_of s

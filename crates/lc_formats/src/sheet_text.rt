@@ -25,7 +25,7 @@ pub fn text<R: Lines, T: Lines, F: Lines, S: Lines, E: Lines>(
 {
     match format {
         Format::Tsv => tsv_text(alloc, sheet),
-        Format::Table | Format::Html => table_text(alloc, sheet),
+        Format::Table => table_text(alloc, sheet),
         Format::Json => json_text(alloc, sheet),
         Format::Csv => csv_text(alloc, sheet),
         Format::Markdown => markdown_text(alloc, sheet),

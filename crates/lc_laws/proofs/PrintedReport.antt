@@ -6,7 +6,8 @@ use Rattle.lc_level.specs.{FaultLines.FaultLineModel, Level.{FileLineModel, Skip
 use Rattle.lc_rows.specs.{Kinds.{fault_value, file_value, row_value, skipped_value, sums_value}, RowKeys.ShownRowModel}
 use Rattle.lc_rows.specs.{SheetColumns.{fault_columns, number_columns, recorded_columns, recorded_skipped, row_columns}, Sheets.form_of}
 use Rattle.lc_rows.specs.{Sheets.{listed_files, sheet_of}, Views.view_of}
-use Rattle.lc_sheet.specs.{Sheets.{line_of, lines_of}, declared.{form.Form.Form, table_options.{Format.Format, TableOptions.TableOptions}}}
+use Rattle.lc_sheet.specs.{Sheets.{line_of, lines_of}, declared.form.Form.Form}
+use Rattle.lc_sheet.specs.declared.table_options.{TableOptions.TableOptions, Output.{Output, TheVariants.Text}}
 use Rattle.lc_walk.specs.declared.{report.Report.Report, tally.sums.Sums.Sums}
 use Rattle.lc_laws.specs.ReadBack.{IsWholeJson}
 use Rattle.lc_sheet.specs.declared.table_options.Format.TheVariants as format
@@ -69,19 +70,19 @@ module _ (options : TableOptions) (r : Report) (rows : List ShownRowModel) (file
 
 -- the sheet that shows all files and rows as JSON
 module _ (options : TableOptions) (r : Report) (rows : List ShownRowModel) (files : List FileLineModel) where
-  abbrev with_options : Format → Option ℕ → Bool → TableOptions
-  with_options f top listed =
-      record { format = f; by = options.by; sort = options.sort; top = top; files = listed; share = options.share }
+  abbrev with_options : Output → Option ℕ → Bool → TableOptions
+  with_options o top listed =
+      record { output = o; by = options.by; sort = options.sort; top = top; files = listed; share = options.share }
 
   abbrev with_lists : Bool → Report
   with_lists b = record r { lists = record { files = r.lists.files; left_out = b } }
 
-  abbrev IsPrinted : Format → Option ℕ → Bool → Bool → Type 0
-  IsPrinted f top listed b =
-      json_of (sheet_of (with_options f top listed) (with_lists b) (view_of top rows (listed_files listed files)))
-      ≡ object_with (report_members (printed_parts (with_options f top listed) r rows files) b r.entries r.skipped.items)
+  abbrev IsPrinted : Output → Option ℕ → Bool → Bool → Type 0
+  IsPrinted o top listed b =
+      json_of (sheet_of (with_options o top listed) (with_lists b) (view_of top rows (listed_files listed files)))
+      ≡ object_with (report_members (printed_parts (with_options o top listed) r rows files) b r.entries r.skipped.items)
 
-  whole_printed : (b : Bool) → IsPrinted format.Json None true b
+  whole_printed : (b : Bool) → IsPrinted (Text format.Json) None true b
   whole_printed true = refl
   whole_printed false = refl
 
@@ -89,6 +90,6 @@ module _ (options : TableOptions) (r : Report) (rows : List ShownRowModel) (file
       → json_of (sheet_of options r (view_of options.top rows (listed_files options.files files)))
       ≡ object_with (report_members (printed_parts options r rows files) r.lists.left_out r.entries r.skipped.items)
   sheet_printed whole =
-      subst (λ f. IsPrinted f options.top options.files r.lists.left_out) (sym whole.json)
-      (subst (λ top. IsPrinted format.Json top options.files r.lists.left_out) (sym whole.uncut)
-      (subst (λ listed. IsPrinted format.Json None listed r.lists.left_out) (sym whole.files) (whole_printed r.lists.left_out)))
+      subst (λ o. IsPrinted o options.top options.files r.lists.left_out) (sym whole.json)
+      (subst (λ top. IsPrinted (Text format.Json) top options.files r.lists.left_out) (sym whole.uncut)
+      (subst (λ listed. IsPrinted (Text format.Json) None listed r.lists.left_out) (sym whole.files) (whole_printed r.lists.left_out)))

@@ -16,7 +16,7 @@ use Rattle.lc_sheet.specs.{ColumnWords.side_of, Values.{ValueModel, number, word
 use Rattle.lc_sheet.specs.declared.column.{Column.Column, Number.TheVariants.{Files, Lines, Blank, Bytes}}
 use Rattle.lc_sheet.specs.declared.column.Side.{Side, TheVariants.{Left, Right, End}}
 use Rattle.lc_sheet.specs.declared.form.{Form.Form, Shares.Shares}
-use Rattle.lc_sheet.specs.declared.table_options.{Format.{TheVariants.Table, Format}, TableOptions.TableOptions}
+use Rattle.lc_sheet.specs.declared.table_options.{Format.TheVariants.Table, Output.{Output, TheVariants.Text}, TableOptions.TableOptions}
 use Rattle.lc_walk.specs.declared.{report.Report.Report, tally.sums.Sums.Sums}
 use Rattle.lc_rows.specs.Kinds.{NamedSumsModel, directory_value, extension_value, fault_value, file_value, kept_value, named_in}
 use Rattle.lc_rows.specs.Kinds.{place_value, row_value, share_value, bar_value, skipped_value, sums_value, text_value}
@@ -105,7 +105,8 @@ place_readable p (other_kind what) small own = tt
 -- ---- lines
 
 -- a value in each column
-each_readable : (f : Column → ValueModel) (columns : List Column) → ((c : Column) → IsReadable (side_of c) (f c)) → AreReadable columns (map f columns)
+each_readable : (f : Column → ValueModel) (columns : List Column) → ((c : Column) → IsReadable (side_of c) (f c))
+    → AreReadable columns (map f columns)
 each_readable f [] own = tt
 each_readable f (c ∷ cs) own = (own c, each_readable f cs own)
 
@@ -173,7 +174,8 @@ line_numbers f keys b a l n m e1 e2 e3 e4 share bar =
     let more = map f (more_columns b) in
     let N : ValueModel → Type 0 = IsNumeral in
     let parts = map-append f (keys ++ number_columns) (more_columns b)
-    ∙ ap (λ (vs : List ValueModel). vs ++ more) (map-append f keys number_columns) ∙ append_assoc (map f keys) (map f number_columns) more in (
+    ∙ ap (λ (vs : List ValueModel). vs ++ more) (map-append f keys number_columns) ∙ append_assoc (map f keys)
+    (map f number_columns) more in (
       map f keys,
       number l ∷ number n ∷ number m ∷ more,
       a,
@@ -267,7 +269,8 @@ listed_of : {X : Type 0} (value : X → Column → ValueModel) (P : X → Type 0
     → ((x : X) → P x → AreReadable columns (map (value x) columns)) → (xs : List X) → All P xs
     → All (AreReadable columns) (section_of value columns xs).lines
 listed_of value P columns own xs small =
-    All-map (AreReadable columns) (λ x. map (value x) columns) xs (All-weaker P (λ x. AreReadable columns (map (value x) columns)) own xs small)
+    All-map (AreReadable columns) (λ x. map (value x) columns) xs
+    (All-weaker P (λ x. AreReadable columns (map (value x) columns)) own xs small)
 
 any_all : {X : Type 0} (xs : List X) → All (λ x. Unit {0}) xs
 any_all [] = All-nil (λ x. Unit {0})
@@ -299,9 +302,9 @@ faults_listed form fs = record {
 }
 
 in_table : (options : TableOptions) (r : Report) (v : ViewModel) → All HasByteNames v.rows → All HasSkippedBytes r.skipped.items
-    → IsReadableSheet (sheet_of (record options { format = Table }) r v)
+    → IsReadableSheet (sheet_of (record options { output = Text Table }) r v)
 in_table options r v small skipped =
-    let form = form_of (record options { format = Table }) r.totals v.rows in
+    let form = form_of (record options { output = Text Table }) r.totals v.rows in
     record {
       tabular = record {
         closed = closed_columns options;
@@ -316,5 +319,5 @@ in_table options r v small skipped =
 
 pub readable_law : ReadableSheetLaw
 readable_law options r v table small skipped =
-    let is : options ≡ record options { format = Table } = ap (λ (f : Format). record options { format = f }) table in
+    let is : options ≡ record options { output = Text Table } = ap (λ (o : Output). record options { output = o }) table in
     subst (λ (o : TableOptions). IsReadableSheet (sheet_of o r v)) (sym is) (in_table options r v small skipped)

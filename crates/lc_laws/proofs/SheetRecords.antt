@@ -2,8 +2,8 @@
 use Rattle.std.proofs.Common.{◌≡◌, ℕ, ◌+◌, ◌<◌, Bool, true, false, if◌then◌else◌, List, [], ◌++◌, length, codes, Option, Some, None, ap}
 use Rattle.std.proofs.{Common.{arith, length-append, unwrap_or, ◌∙◌}, lemmas.List.{length-map, Elements.All-map}}
 use Rattle.std.specs.List.{slice_index_or}
-use Rattle.lc_sheet.specs.{Sheets.line_of, Values.ValueModel, declared.column.Column.Column}
-use Rattle.lc_sheet.specs.declared.table_options.{Columns.Columns, Format.{Format, TheVariants.{Tsv, Table, Json, Csv, Markdown, Html}}}
+use Rattle.lc_sheet.specs.{Sheets.{line_of, sheet_format}, Values.ValueModel, declared.column.Column.Column}
+use Rattle.lc_sheet.specs.declared.table_options.{Columns.Columns, Format.{Format, TheVariants.{Tsv, Table, Json, Csv, Markdown}}}
 use Rattle.lc_sheet.specs.declared.table_options.TableOptions.{TableOptions}
 use Rattle.lc_walk.specs.declared.report.Report.{Report}
 use Rattle.lc_rows.specs.{Kinds.{file_value, row_value, skipped_value}, SheetColumns.{file_columns, keeps_columns, key_columns}}
@@ -26,8 +26,8 @@ more_than columns m n e = omega arith
 
 row_columns_some : (options : TableOptions) → 0 < length (row_columns options)
 row_columns_some options =
-    let keys = key_columns (keeps_columns options.format) options.by in
-    let shares : List Column = if options.share then share_columns options.format else [] in
+    let keys = key_columns (keeps_columns (sheet_format options.output)) options.by in
+    let shares : List Column = if options.share then share_columns (sheet_format options.output) else [] in
     let e1 : length (keys ++ number_columns ++ shares) ≡ length (keys ++ number_columns) + length shares
     = length-append (keys ++ number_columns) shares in
     let e2 : length (keys ++ number_columns) ≡ length keys + 4 = length-append keys number_columns in
@@ -39,7 +39,6 @@ skipped_columns_some Table = omega arith
 skipped_columns_some Json = omega arith
 skipped_columns_some Csv = omega arith
 skipped_columns_some Markdown = omega arith
-skipped_columns_some Html = omega arith
 
 file_columns_some : (format : Format) (by : Columns) → 0 < length (file_columns format by)
 file_columns_some Tsv by = omega arith
@@ -47,21 +46,22 @@ file_columns_some Table by = omega arith
 file_columns_some Json by = omega arith
 file_columns_some Csv by = omega arith
 file_columns_some Markdown by = omega arith
-file_columns_some Html by = omega arith
 
 module _ (options : TableOptions) (r : Report) (v : ViewModel) where
   at : (files left_out : Bool)
       → HasColumns (unwrap_or
       (if files then Some (list_of (codes "file") (section_of (file_value (form_of options r.totals v.rows))
-      (file_columns options.format options.by) v.files)) else None)
+      (file_columns (sheet_format options.output) options.by) v.files)) else None)
       (unwrap_or (if left_out then Some (list_of (codes "left") (section_of (skipped_value (form_of options r.totals v.rows))
-      (skipped_columns options.format) r.skipped.items)) else None) (sheet_of options r v).rows))
+      (skipped_columns (sheet_format options.output)) r.skipped.items)) else None) (sheet_of options r v).rows))
   at true left_out =
-      made_with (Some (codes "file")) (file_value (form_of options r.totals v.rows)) (file_columns options.format options.by) v.files
-      (file_columns_some options.format options.by)
+      made_with (Some (codes "file")) (file_value (form_of options r.totals v.rows))
+      (file_columns (sheet_format options.output) options.by) v.files
+      (file_columns_some (sheet_format options.output) options.by)
   at false true =
-      made_with (Some (codes "left")) (skipped_value (form_of options r.totals v.rows)) (skipped_columns options.format) r.skipped.items
-      (skipped_columns_some options.format)
+      made_with (Some (codes "left")) (skipped_value (form_of options r.totals v.rows))
+      (skipped_columns (sheet_format options.output)) r.skipped.items
+      (skipped_columns_some (sheet_format options.output))
   at false false =
       made_with None (row_value (form_of options r.totals v.rows)) (row_columns options) v.rows (row_columns_some options)
 

@@ -2,7 +2,8 @@
 use Rattle.std.specs.Prelude.{◌≡◌, ℕ, Bool, false, List, [], None, Ok}
 use Rattle.lc_formats.specs.Tsv.{tsv_of}
 use Rattle.lc_rows.specs.Sheets.{IsSheetOf}
-use Rattle.lc_sheet.specs.{Sheets.SheetModel, declared.table_options.{Format.TheVariants.Tsv, TableOptions.TableOptions}}
+use Rattle.lc_sheet.specs.{Sheets.SheetModel, declared.table_options.{Format.TheVariants.Tsv, Output.TheVariants.Text}}
+use Rattle.lc_sheet.specs.declared.table_options.TableOptions.{TableOptions}
 use Rattle.lc_tree.specs.Trees.{Listings, Contents}
 use Rattle.lc_walk.specs.{Walks.Walks, declared.{options.Options.Options, report.Report.Report}}
 use Rattle.lc_laws.specs.PlainTable.{plain_table}
@@ -10,7 +11,7 @@ use Rattle.lc_walk.specs.AllColumns.{all_columns}
 
 -- the options of the table of a count without options, or with `--files`, that is not printed on a terminal
 abbrev pub plain_options : Bool → TableOptions
-plain_options files = record { format = Tsv; by = all_columns; sort = None; top = None; files = files; share = false }
+plain_options files = record { output = Text Tsv; by = all_columns; sort = None; top = None; files = files; share = false }
 
 -- a report that does not list skipped entries, so its table has no line for them or for the number of entries
 pub record ListsNoSkipped (r : Report) : Type 0 where

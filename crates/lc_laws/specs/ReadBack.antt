@@ -8,7 +8,8 @@ use Rattle.lc_level.specs.ReasonWords.{rule_of}
 use Rattle.lc_reading.specs.Texts.{AreReportsOf}
 use Rattle.lc_rows.specs.{Sheets.IsSheetOf, WalkedReports.IsOfWalk, Words.kind_word}
 use Rattle.lc_rules.specs.declared.rule_source.RuleSource.{RuleSource}
-use Rattle.lc_sheet.specs.{Sheets.SheetModel, declared.table_options.{Format.TheVariants.Json, TableOptions.TableOptions}}
+use Rattle.lc_sheet.specs.{Sheets.SheetModel, declared.table_options.{Format.TheVariants.Json, Output.TheVariants.Text}}
+use Rattle.lc_sheet.specs.declared.table_options.TableOptions.{TableOptions}
 use Rattle.lc_text.specs.RulePlaces.{source_directory, source_name}
 use Rattle.lc_tree.specs.Trees.{Listings, Contents}
 use Rattle.lc_walk.specs.{Sums.IsInRange, declared.{options.Options.Options, report.Report.Report}}
@@ -96,7 +97,7 @@ pub record IsReadBack (r : Report) (read : Report) : Type 0 where
 
 -- a table as JSON that lists all files and all rows
 pub record IsWholeJson (options : TableOptions) : Type 0 where
-  pub json : options.format ≡ Json
+  pub json : options.output ≡ Text Json
   pub files : options.files ≡ true
   pub uncut : options.top ≡ None
 

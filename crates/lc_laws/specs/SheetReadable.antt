@@ -1,7 +1,8 @@
 -- The sheet of a report, as its texts show it: what is known of its columns and values.
 use Rattle.std.specs.{Prelude.{◌≡◌, [], unwrap_or, IfSome, ⊤}, List.All}
 use Rattle.lc_level.specs.Level.{SkippedLineModel, Reason, named_git, by_rule, by_attribute, not_included, other_kind}
-use Rattle.lc_sheet.specs.{Sheets.SheetModel, declared.table_options.{Format.TheVariants.Table, TableOptions.TableOptions}}
+use Rattle.lc_sheet.specs.{Sheets.SheetModel, declared.table_options.{Format.TheVariants.Table, Output.TheVariants.Text}}
+use Rattle.lc_sheet.specs.declared.table_options.TableOptions.{TableOptions}
 use Rattle.lc_walk.specs.declared.report.Report.{Report}
 use Rattle.lc_rows.specs.{RowKeys.ShownRowModel, Sheets.sheet_of, Views.ViewModel}
 use Rattle.lc_formats.specs.{Csv.csv_section, CsvLaws.HasColumns, Readable.{AreBytes, IsListed, IsTabular}}
@@ -30,7 +31,7 @@ pub record IsReadableSheet (s : SheetModel) : Type 0 where
 -- the sheet of each report for the format Table is readable if names are bytes, so the laws of the widths of a text in columns hold of it
 abbrev pub ReadableSheetLaw : Type 0
 ReadableSheetLaw =
-    (options : TableOptions) (r : Report) (v : ViewModel) → options.format ≡ Table → All HasByteNames v.rows
+    (options : TableOptions) (r : Report) (v : ViewModel) → options.output ≡ Text Table → All HasByteNames v.rows
     → All HasSkippedBytes r.skipped.items → IsReadableSheet (sheet_of options r v)
 
 -- the part of a report's sheet that a text as CSV shows has columns, and a value in each: so a reader gets its records back

@@ -2,7 +2,8 @@
 use Rattle.std.specs.Prelude.{◌≡◌, ℕ, true, false, List, [], ◌∷◌, ◌++◌, codes, unwrap_or, Option, Some, None}
 use Rattle.lc_rows.specs.{RowKeys.ShownRowModel, Sheets.sheet_of, ShownRows.{AreShown, number_in}, TreeRows.AreTreeRows, Views.ViewModel}
 use Rattle.lc_rows.specs.Views.{view_of}
-use Rattle.lc_sheet.specs.{Sheets.SheetModel, declared.table_options.{Columns.Columns, Format.TheVariants.Html, TableOptions.TableOptions}}
+use Rattle.lc_sheet.specs.Sheets.{SheetModel}
+use Rattle.lc_sheet.specs.declared.table_options.{Columns.Columns, Output.TheVariants.Picture, TableOptions.TableOptions}
 use Rattle.lc_sheet.specs.declared.column.Number.{Number, TheVariants.Lines}
 use Rattle.lc_walk.specs.declared.{report.Report.Report, tally.sums.Sums.Sums}
 use Rattle.lc_picture.specs.{declared.scale.Scale.Scale, Boxes.{BoxModel, boxes_in, drawn_boxes, least_drawn}, Chart.chart}
@@ -55,7 +56,7 @@ chart_rows = 20
 -- the options of the sheet of a page: the largest extensions, with bars
 abbrev pub chart_options : Number → TableOptions
 chart_options by = record {
-  format = Html;
+  output = Picture;
   by = chart_columns;
   sort = Some by;
   top = Some chart_rows;

@@ -18,7 +18,7 @@ use crate::scale::Scale;
 use crate::style::{boxes_begin, chart_begin, tree_begin};
 use crate::sums::number_word;
 use lc_rows::{Shown, ShownRow, number_in, shown_rows, tree_rows};
-use lc_sheet::{Columns, Format, Lines, Number, Section, Sheet, TableOptions};
+use lc_sheet::{Columns, Lines, Number, Output, Section, Sheet, TableOptions};
 use lc_walk::{FaultLine, FileLine, Report, Sums};
 use std::alloc::{AllocError, Global};
 
@@ -113,7 +113,7 @@ fn chart_options(by: Number) -> TableOptions
     ensures { result ≡ chart_options by }
 {
     TableOptions {
-        format: Format::Html,
+        output: Output::Picture,
         by: CHART_COLUMNS,
         sort: Some(by),
         top: Some(CHART_ROWS),

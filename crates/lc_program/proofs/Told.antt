@@ -4,7 +4,7 @@ use Rattle.std.proofs.Common.{◌≡◌, ◌≢◌, ◌==◌, ◌∙◌, ℕ, Bo
 use Rattle.std.proofs.Common.{subst}
 use Rattle.lc_io.specs.{declared.{source.Failed.Failed, printing.PrintFault.{PrintFault, TheVariants.{Memory, Write}}}, Writes.AnswersPrint}
 use Rattle.lc_level.specs.FaultLines.{FaultLineModel}
-use Rattle.lc_sheet.specs.declared.table_options.Format.{Format}
+use Rattle.lc_sheet.specs.declared.table_options.Output.{Output}
 use Rattle.lc_program.specs.{Faults.{AreFaultLines, TellsFaults}, Tellings.Tells, declared.unread_reason.UnreadReason.UnreadReason}
 
 module _ {E : Type 0} (may_take : E → List ℕ → Result ℕ Failed → E → Type 0) where
@@ -22,12 +22,12 @@ module _ {E : Type 0} (may_take : E → List ℕ → Result ℕ Failed → E →
       subst (λ (t : List ℕ). Tells may_take err t told) (same ∙ is) (printed err bytes answer told answers other)
 
   -- and so was what could not be read, where there is such a thing
-  pub faults_told : (may_unlist : List ℕ → Option UnreadReason → Type 0) (directories : List (List ℕ)) (format : Format)
+  pub faults_told : (may_unlist : List ℕ → Option UnreadReason → Type 0) (directories : List (List ℕ)) (output : Output)
       (faults : List FaultLineModel) (text : List ℕ) (err told : E) → (length faults == 0) ≡ false
-      → AreFaultLines may_unlist directories faults format text → Tells may_take err text told
-      → TellsFaults may_take may_unlist directories format faults err told
-  faults_told may_unlist directories format [] text err told some are tells = absurd (cc)
-  faults_told may_unlist directories format (f ∷ fs) text err told some are tells = inl (text, are, tells)
+      → AreFaultLines may_unlist directories faults output text → Tells may_take err text told
+      → TellsFaults may_take may_unlist directories output faults err told
+  faults_told may_unlist directories output [] text err told some are tells = absurd (cc)
+  faults_told may_unlist directories output (f ∷ fs) text err told some are tells = inl (text, are, tells)
 
 -- what is told where a test fails
 pub told_unless : (b : Bool) (Then Else : Type 0) → b ≡ false → Else → MatchBool b Then Else

@@ -1,7 +1,7 @@
 -- How a comparison is answered, by what was read and written.
 use Rattle.std.specs.Prelude.{◌≡◌, ◌⊎◌, ℕ, Bool, true, false, cond, List, map, Option, Some, None, Result, Ok, Err, String, Vec}
 use Rattle.std.specs.{Prelude.{string_bytes, unwrap_or}, Borrow.Bor, Global.Global}
-use Rattle.lc_arguments.specs.{TableWords.{format_in, is_for_reading, number_of}, declared.diff.DiffRequest.DiffRequest}
+use Rattle.lc_arguments.specs.{TableWords.{is_for_reading, number_of, output_in}, declared.diff.DiffRequest.DiffRequest}
 use Rattle.lc_arguments.specs.declared.table.TableRequest.{TableRequest}
 use Rattle.lc_changes.specs.{ChangeSheets.{AreChangesOf, ChangesModel}, declared.options.ChangeOptions.ChangeOptions}
 use Rattle.lc_formats.specs.Texts.{IsTextIn}
@@ -12,8 +12,8 @@ use Rattle.lc_program.specs.{Sides.GivesSides, Systems.SystemMay, Unnamed.AreUnn
 use Rattle.lc_program.specs.declared.{answered.Answered.TheVariants.Compared, cause.Cause.{Cause, TheVariants.Memory}}
 use Rattle.lc_program.specs.declared.comparison.Comparison.{Comparison}
 use Rattle.lc_rows.specs.Kept.{IsKept}
-use Rattle.lc_sheet.specs.declared.column.Number.TheVariants.{Lines}
-use Rattle.lc_sheet.specs.declared.table_options.{Columns.Columns, Format.Format, Order.{Order, TheVariants.{Name, Largest}}}
+use Rattle.lc_sheet.specs.{Sheets.sheet_format, declared.column.Number.TheVariants.Lines}
+use Rattle.lc_sheet.specs.declared.table_options.{Columns.Columns, Format.Format, Order.{Order, TheVariants.{Name, Largest}}, Output.Output}
 use Rattle.lc_sums.specs.{Needs.needs_of, declared.needs.Needs.Needs}
 use Rattle.lc_walk.specs.declared.{options.{Options.Options, ReportLists.ReportLists}, report.Report.Report}
 use Rattle.lc_io.specs.declared.printing.PrintFault.TheVariants as print
@@ -24,17 +24,17 @@ use Rattle.lc_io.specs.declared.printing.PrintFault.TheVariants as print
 abbrev pub compared_columns : TableRequest → Columns
 compared_columns s = unwrap_or s.by (record { dir = None; ext = true; text = false; eol = false })
 
--- the order of a comparison's rows: the one that the command line names, or else the largest changes of lines first if the format is for
+-- the order of a comparison's rows: the one that the command line names, or else the largest changes of lines first if the text is for
 -- reading, and by name otherwise
-abbrev pub change_order : Format → TableRequest → Order
-change_order format s = unwrap_or s.sort (cond (is_for_reading format) (Largest Lines) Name)
+abbrev pub change_order : Output → TableRequest → Order
+change_order output s = unwrap_or s.sort (cond (is_for_reading output) (Largest Lines) Name)
 
 -- the options of a comparison, with this format if the command line names none
 abbrev pub change_options : Format → DiffRequest → ChangeOptions
 change_options other d = record {
-  format = format_in other d.table;
+  format = sheet_format (output_in other d.table);
   by = compared_columns d.table;
-  sort = number_of (change_order (format_in other d.table) d.table);
+  sort = number_of (change_order (output_in other d.table) d.table);
   top = d.table.top;
   files = d.table.files;
   all = d.all;

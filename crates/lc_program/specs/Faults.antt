@@ -5,7 +5,8 @@ use Rattle.lc_arguments.specs.Directories.{unslashed}
 use Rattle.lc_io.specs.declared.source.Failed.{Failed}
 use Rattle.lc_level.specs.FaultLines.{FaultLineModel}
 use Rattle.lc_text.specs.Visible.{visible_bytes}
-use Rattle.lc_sheet.specs.declared.table_options.Format.{Format, TheVariants.{Tsv, Table, Json, Csv, Markdown, Html}}
+use Rattle.lc_sheet.specs.declared.table_options.Format.TheVariants.{Tsv, Table, Json, Csv, Markdown}
+use Rattle.lc_sheet.specs.declared.table_options.Output.{Output, TheVariants.{Text, Picture}}
 use Rattle.lc_program.specs.{Commands.or_here, Reasons.uncounted_line, Tellings.Tells, Unlisted.short_line}
 use Rattle.lc_program.specs.declared.unread_reason.UnreadReason.{UnreadReason}
 use Rattle.lc_reports.specs.Named.{named_top}
@@ -33,18 +34,18 @@ fault_rows count = cond (nat_eq count 1) (codes "the line that begins with fault
 
 -- the lines about paths inside the counted directories that could not be read: a line for each path for CSV and HTML, and for every other
 -- format one line that names the place where the output lists them
-abbrev pub lines_by : Format → List FaultLineModel → List ℕ
-lines_by Csv faults = each_line faults
-lines_by Html faults = each_line faults
-lines_by Tsv faults = number_line (fault_rows (length faults)) (length faults)
-lines_by Table faults = number_line (codes "the list of faults") (length faults)
-lines_by Markdown faults = number_line (codes "the list of faults") (length faults)
-lines_by Json faults = number_line (codes "faults") (length faults)
+abbrev pub lines_by : Output → List FaultLineModel → List ℕ
+lines_by (Text Csv) faults = each_line faults
+lines_by Picture faults = each_line faults
+lines_by (Text Tsv) faults = number_line (fault_rows (length faults)) (length faults)
+lines_by (Text Table) faults = number_line (codes "the list of faults") (length faults)
+lines_by (Text Markdown) faults = number_line (codes "the list of faults") (length faults)
+lines_by (Text Json) faults = number_line (codes "faults") (length faults)
 
 -- the lines about paths that could not be read, or nothing if there are none
-abbrev pub lines_if : Format → List FaultLineModel → List ℕ
-lines_if format [] = []
-lines_if format (f ∷ fs) = lines_by format (f ∷ fs)
+abbrev pub lines_if : Output → List FaultLineModel → List ℕ
+lines_if output [] = []
+lines_if output (f ∷ fs) = lines_by output (f ∷ fs)
 
 -- the path that a report has for an error of a counted directory itself: empty if it is the only directory, and else its name
 abbrev pub top_path : List (List ℕ) → List ℕ → List ℕ
@@ -77,13 +78,13 @@ module _ (may_unlist : List ℕ → Option UnreadReason → Type 0) (directories
       × (text ≡ line ++ rest)
 
   -- a text has the lines about directories that could not be listed, and then the lines about paths inside the directories, by the format
-  abbrev pub AreFaultLines : Format → List ℕ → Type 0
-  AreFaultLines format text = (tops : List ℕ) × AreTopLines directories tops × (text ≡ tops ++ lines_if format (inside directories faults))
+  abbrev pub AreFaultLines : Output → List ℕ → Type 0
+  AreFaultLines output text = (tops : List ℕ) × AreTopLines directories tops × (text ≡ tops ++ lines_if output (inside directories faults))
 
 module _ {E : Type 0} (may_take : E → List ℕ → Result ℕ Failed → E → Type 0) where
   -- standard error gets the lines about what could not be read, or a shorter line if an allocation fails; it gets nothing if all was read
-  abbrev pub TellsFaults : (List ℕ → Option UnreadReason → Type 0) → List (List ℕ) → Format → List FaultLineModel → E → E → Type 0
-  TellsFaults may_unlist directories format [] err told = told ≡ err
-  TellsFaults may_unlist directories format (f ∷ fs) err told =
-      ((text : List ℕ) × AreFaultLines may_unlist directories (f ∷ fs) format text × Tells may_take err text told)
+  abbrev pub TellsFaults : (List ℕ → Option UnreadReason → Type 0) → List (List ℕ) → Output → List FaultLineModel → E → E → Type 0
+  TellsFaults may_unlist directories output [] err told = told ≡ err
+  TellsFaults may_unlist directories output (f ∷ fs) err told =
+      ((text : List ℕ) × AreFaultLines may_unlist directories (f ∷ fs) output text × Tells may_take err text told)
       ⊎ Tells may_take err short_line told

@@ -9,7 +9,7 @@ use Rattle.lc_program.specs.declared.cause.Cause.{Cause, TheVariants.{Memory, Un
 use Rattle.lc_program.specs.declared.ending.Ending.{Ending, TheVariants.{AnyFile, Done, SomeFaults, Misused, GaveUp}}
 use Rattle.lc_program.specs.declared.{repository.Repository.Repository, streams.{Streams.Streams, Terminals.Terminals}}
 use Rattle.lc_program.specs.declared.unread_reason.UnreadReason.{UnreadReason}
-use Rattle.lc_arguments.specs.{Naming.{IsNamingError, IsTextOf, named_command}, Refusals.IsMessage, TableWords.{format_in, options_in}}
+use Rattle.lc_arguments.specs.{Naming.{IsNamingError, IsTextOf, named_command}, Refusals.IsMessage, TableWords.output_in}
 use Rattle.lc_arguments.specs.{Words.{AreRefused, Asks, MayShow, faults_in}, declared.request.Request.Request}
 use Rattle.lc_arguments.specs.declared.request.Request.TheVariants.{Count, Diff, Explain, Sum}
 use Rattle.lc_sheet.specs.declared.table_options.Format.{Format}
@@ -33,11 +33,11 @@ module _ {E : Type 0} (may_take : E → List ℕ → Result ℕ Failed → E →
   -- with the reason that the system gives. For a comparison there are the paths of each side
   abbrev pub TellsUnread : (List ℕ → Option UnreadReason → Type 0) → Format → Request → Answered → E → E → Type 0
   TellsUnread may_unlist other (Count c) (Counted left unnamed) err told =
-      TellsFaults may_take may_unlist (names_of c) (options_in other all_columns c.table).format left.faults.items err told
+      TellsFaults may_take may_unlist (names_of c) (output_in other c.table) left.faults.items err told
   TellsUnread may_unlist other (Explain c) (Explained outcome.SomeFaults) err told =
       TellsUnlisted may_take may_unlist c.directory.now err told
   TellsUnread may_unlist other (Sum c) (Summed left) err told =
-      TellsFaults may_take may_unlist [] (format_in other c.table) left.faults.items err told
+      TellsFaults may_take may_unlist [] (output_in other c.table) left.faults.items err told
   TellsUnread may_unlist other (Diff d) (Compared c unnamed) err told =
       TellsSideFaults may_take d.old.now c.old.faults.items d.new.now c.new.faults.items err told
   TellsUnread may_unlist other request answered err told = told ≡ err

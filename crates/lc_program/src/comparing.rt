@@ -25,7 +25,7 @@ use lc_changes::{ChangeOptions, ShownChanges};
 use lc_formats::text;
 use lc_level::NamedAttributes;
 use lc_rows::keep;
-use lc_sheet::{Columns, Format, Number, Order};
+use lc_sheet::{Columns, Format, Number, Order, Output};
 use lc_sums::Needs;
 use lc_text::{PrintFault, Sink, print};
 use lc_walk::{Report, ReportLists};
@@ -48,13 +48,13 @@ fn compared_columns(table: TableRequest) -> Columns
 }
 
 /// Returns the number whose largest changes come first, if rows are sorted by a number.
-fn sort_number(format: Format, table: TableRequest) -> Option<Number>
-    ensures { result ≡ number_of (change_order format table) }
+fn sort_number(output: Output, table: TableRequest) -> Option<Number>
+    ensures { result ≡ number_of (change_order output table) }
 {
-    match (table.sort, format) {
+    match (table.sort, output) {
         (Some(Order::Largest(number)), _) => Some(number),
         (Some(Order::Name), _) => None,
-        (None, Format::Table | Format::Markdown) => Some(Number::Lines),
+        (None, Output::Text(Format::Table | Format::Markdown)) => Some(Number::Lines),
         (None, _) => None,
     }
 }
@@ -64,11 +64,11 @@ fn change_options(asked: &DiffRequest<'_>, other: Format) -> ChangeOptions
     ensures { result ≡ change_options other asked.now }
 {
     let by = compared_columns(asked.table);
-    let format = asked.table.options(other, by).format;
+    let output = asked.table.output(other);
     ChangeOptions {
-        format,
+        format: output.sheet_format(),
         by,
-        sort: sort_number(format, asked.table),
+        sort: sort_number(output, asked.table),
         top: asked.table.top,
         files: asked.table.files,
         all: asked.all,

@@ -1,7 +1,6 @@
 //! Answers `lc count`: counts directories, and prints the table.
 
 ghost use Rattle.std.specs.Prelude.{◌≡◌, ◌++◌, map, IfOk, OnOk};
-ghost use Rattle.lc_arguments.specs.Combinations.{is_picture};
 ghost use Rattle.lc_arguments.specs.Words.{IsCountWithinLimits};
 ghost use Rattle.lc_arguments.specs.TableWords.{options_in};
 ghost use Rattle.lc_program.specs.Counts.{AnswersApart, AnswersCount, Prints, after_spaces, lists_of, one_text};
@@ -35,13 +34,6 @@ use std::thread::Threads;
 // The command line allows as many threads and directories as a walk can have.
 const _: () = prove!(MAX_THREADS == MAX_WORKERS && MAX_DIRS == MAX_CAPACITY);
 
-/// Returns whether the command line names HTML, the format of a picture.
-pub(crate) fn is_picture(format: Option<Format>) -> bool
-    ensures { result ≡ is_picture format }
-{
-    matches!(format, Some(Format::Html))
-}
-
 /// Returns which lists the report of a count must have. A table with rows by directory, a picture and a condition on a number need the list
 /// of files.
 fn lists_of(asked: &CountRequest<'_>) -> ReportLists
@@ -50,7 +42,7 @@ fn lists_of(asked: &CountRequest<'_>) -> ReportLists
     ReportLists {
         files: asked.table.files
             || asked.table.by.unwrap_or(Columns::ALL).dir.is_some()
-            || is_picture(asked.table.format)
+            || asked.table.is_picture()
             || needs_files(&asked.conditions),
         left_out: asked.left_out,
     }

@@ -10,7 +10,7 @@ ghost use Rattle.lc_program.specs.Faults.{lines_by, lines_if, number_line, numbe
 use crate::system::System;
 use crate::unlisted::{tell_shortly, uncounted_line};
 use lc_arguments::unslashed;
-use lc_sheet::Format;
+use lc_sheet::{Format, Output};
 use lc_text::{Sink, print, push_visible};
 use lc_walk::FaultLine;
 use std::alloc::{AllocError, Global};
@@ -73,25 +73,27 @@ fn fault_rows(count: usize) -> &'static str
 }
 
 /// Makes the lines about the paths in the counted directories that could not be read.
-fn lines_by(alloc: Global, format: Format, faults: &[&FaultLine]) -> Result<String, AllocError>
-    ensures { IfOk result (λ text. string_bytes text ≡ lines_by format (map (λ f. f.now) faults.now)) }
+fn lines_by(alloc: Global, output: Output, faults: &[&FaultLine]) -> Result<String, AllocError>
+    ensures { IfOk result (λ text. string_bytes text ≡ lines_by output (map (λ f. f.now) faults.now)) }
 {
-    match format {
-        Format::Csv | Format::Html => each_line(alloc, faults),
-        Format::Tsv => number_line(alloc, fault_rows(faults.len()), faults.len()),
-        Format::Table | Format::Markdown => number_line(alloc, "the list of faults", faults.len()),
-        Format::Json => number_line(alloc, "faults", faults.len()),
+    match output {
+        Output::Picture | Output::Text(Format::Csv) => each_line(alloc, faults),
+        Output::Text(Format::Tsv) => number_line(alloc, fault_rows(faults.len()), faults.len()),
+        Output::Text(Format::Table | Format::Markdown) => {
+            number_line(alloc, "the list of faults", faults.len())
+        }
+        Output::Text(Format::Json) => number_line(alloc, "faults", faults.len()),
     }
 }
 
 /// Makes the lines about the paths in the counted directories that could not be read, or none if all were read.
-fn lines_if(alloc: Global, format: Format, faults: &[&FaultLine]) -> Result<String, AllocError>
-    ensures { IfOk result (λ text. string_bytes text ≡ lines_if format (map (λ f. f.now) faults.now)) }
+fn lines_if(alloc: Global, output: Output, faults: &[&FaultLine]) -> Result<String, AllocError>
+    ensures { IfOk result (λ text. string_bytes text ≡ lines_if output (map (λ f. f.now) faults.now)) }
 {
     if faults.is_empty() {
         Ok(String::new(alloc))
     } else {
-        lines_by(alloc, format, faults)
+        lines_by(alloc, output, faults)
     }
 }
 
@@ -184,15 +186,15 @@ fn fault_lines<Y: System>(
     alloc: Global,
     system: &Y,
     directories: &[&str],
-    format: Format,
+    output: Output,
     faults: &[FaultLine],
 ) -> Result<String, AllocError>
-    ensures { IfOk result (λ text. AreFaultLines (Y.unlists system.now) (map (λ d. d.now) directories.now) faults.now format
+    ensures { IfOk result (λ text. AreFaultLines (Y.unlists system.now) (map (λ d. d.now) directories.now) faults.now output
         (string_bytes text)) }
 {
     let mut text = top_lines(alloc, system, directories, faults)?;
     let inside = inside(alloc, directories, faults)?;
-    let others = lines_if(alloc, format, &inside)?;
+    let others = lines_if(alloc, output, &inside)?;
     text.push_str(&others)?;
     Ok(text)
 }
@@ -203,16 +205,16 @@ pub(crate) fn tell_faults<Y: System, E: Sink>(
     alloc: Global,
     system: &Y,
     directories: &[&str],
-    format: Format,
+    output: Output,
     faults: &[FaultLine],
     err: &mut E,
 )
-    ensures { TellsFaults E.may_take (Y.unlists system.now) (map (λ d. d.now) directories.now) format faults.now err.old err.new }
+    ensures { TellsFaults E.may_take (Y.unlists system.now) (map (λ d. d.now) directories.now) output faults.now err.old err.new }
 {
     if faults.is_empty() {
         return;
     }
-    match fault_lines(alloc, system, directories, format, faults) {
+    match fault_lines(alloc, system, directories, output, faults) {
         // The exit status shows the errors too, so a line that can't be written changes nothing.
         Ok(text) => {
             let _ = print(err, text.as_bytes());

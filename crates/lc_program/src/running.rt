@@ -22,7 +22,7 @@ use crate::unmatched::unmatched_in;
 use crate::unnamed::tell_unnamed;
 use lc_arguments::{ParseExit, Request};
 use lc_census::Source;
-use lc_sheet::{Columns, Format};
+use lc_sheet::Format;
 use lc_text::{Outcome, Sink, print};
 use lc_walk::Report;
 use std::alloc::Global;
@@ -44,19 +44,18 @@ fn tell_unread<Y: System, E: Sink>(
 {
     match (request, answered) {
         (Request::Count(asked), Answered::Counted(report, _)) => {
-            let options = asked.table.options(format, Columns::ALL);
             tell_faults(
                 alloc,
                 system,
                 &asked.directories,
-                options.format,
+                asked.table.output(format),
                 &report.faults,
                 err,
             );
         }
         (Request::Sum(asked), Answered::Summed(report)) => {
-            let options = asked.table.options(format, Columns::ALL);
-            tell_faults(alloc, system, &[], options.format, &report.faults, err);
+            let output = asked.table.output(format);
+            tell_faults(alloc, system, &[], output, &report.faults, err);
         }
         (Request::Diff(asked), Answered::Compared(compared, _)) => {
             let old = SideFaults {

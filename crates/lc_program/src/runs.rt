@@ -58,7 +58,7 @@ impl From<PrintFault> for RunFault {
 ///
 /// ```
 /// let tree = SysTree::new(&rt, rt.alloc(), "src", FileSystems::All)?;
-/// let table = TableOptions { format: Format::Tsv, by: Columns::ALL, sort: None, top: None, files: false, share: false };
+/// let table = TableOptions { output: Output::Text(Format::Tsv), by: Columns::ALL, sort: None, top: None, files: false, share: false };
 /// let shown = ReportOptions { table, conditions: &[], counted: b"src" };
 /// let report = run(&rt, rt.alloc(), &tree, &options, shown, &mut out)?;
 /// assert!(report.faults.is_empty());

@@ -8,7 +8,7 @@ ghost use Rattle.lc_rows.specs.WalkedReports.{HasFilesFor};
 use lc_formats::text;
 use lc_picture::page;
 use lc_rows::{Shown, keep, sort_files};
-use lc_sheet::{Format, ReportOptions, TableOptions};
+use lc_sheet::{Output, ReportOptions, TableOptions};
 use lc_text::{PrintFault, Sink, print};
 use lc_walk::Report;
 use std::alloc::{AllocError, Global};
@@ -26,12 +26,11 @@ fn sheet_text(
     sort_files(options.sort, &mut report.files);
     let shown = Shown::of(alloc, report, &options)?;
     let sheet = shown.sheet();
-    let text = text(alloc, options.format, &sheet)?;
+    let text = text(alloc, options.output.sheet_format(), &sheet)?;
     Ok(text)
 }
 
-/// Makes the text of a report. In the format `Html` the text is a page with a picture. The heading of this page is `counted`, which says
-/// what was counted.
+/// Makes the text of a report. A picture is a page of HTML whose heading is `counted`, which says what was counted.
 ///
 /// The function may sort the report's list of files. If the table has rows by directory (`--by dir`), the function requires that the report
 /// has this list. A picture shows the files in this list. An error means that an allocation failed, or that sums or shares overflow. The
@@ -46,11 +45,9 @@ pub fn report_text(
     ensures text { IfOk result (λ text. IsTextOf counted.now options report.old text.items) }
     ensures left { IsReordered report.old report.new }
 {
-    match options.format {
-        Format::Html => page(alloc, counted, report, options.sort),
-        Format::Tsv | Format::Table | Format::Json | Format::Csv | Format::Markdown => {
-            sheet_text(alloc, report, options)
-        }
+    match options.output {
+        Output::Picture => page(alloc, counted, report, options.sort),
+        Output::Text(_) => sheet_text(alloc, report, options),
     }
 }
 

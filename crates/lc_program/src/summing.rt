@@ -10,7 +10,6 @@ ghost use Rattle.lc_rows.specs.WalkedReports.{HasFilesFor};
 
 use crate::answered::Answered;
 use crate::cause::Cause;
-use crate::counting::is_picture;
 use crate::report_files::read_all;
 use crate::report_lines::cause_of_sum;
 use crate::showing::table;
@@ -62,7 +61,7 @@ fn one_text(alloc: Global, reports: &[NamedReport<'_>]) -> Result<Vec<u8>, Alloc
 fn needed_by(asked: &SumRequest<'_>) -> Needs
     ensures { result ≡ needed_by asked.now }
 {
-    let files = asked.table.files || is_picture(asked.table.format);
+    let files = asked.table.files || asked.table.is_picture();
     Needs::of(asked.table.by, &asked.conditions, files, asked.left_out)
 }
 

@@ -2,8 +2,8 @@
 use Rattle.std.proofs.Common.{◌≡◌, ℕ, Bool, true, false, if◌then◌else◌, List, [], ◌∷◌, map, Option, Some, None, refl, sym, ap, ap₂, ◌∙◌}
 use Rattle.std.proofs.Common.{codes, subst}
 use Rattle.std.specs.Prelude.{unwrap_or}
-use Rattle.lc_sheet.specs.{Sheets.{SectionModel, SheetModel, line_of, lines_of}, declared.form.Form.Form}
-use Rattle.lc_sheet.specs.declared.table_options.Format.{Format, TheVariants.{Tsv, Table, Json, Csv, Markdown, Html}}
+use Rattle.lc_sheet.specs.{Sheets.{SectionModel, SheetModel, line_of, lines_of, sheet_format}, declared.form.Form.Form}
+use Rattle.lc_sheet.specs.declared.table_options.Format.{Format, TheVariants.{Tsv, Table, Json, Csv, Markdown}}
 use Rattle.lc_rows.specs.{Kinds.file_value, SheetColumns.file_columns, SheetLaws.{SheetFilesLaw, path_at}, Sheets.{form_of, list_of}}
 use Rattle.lc_rows.specs.{Sheets.{listed_files, section_of}, Views.{first_of, view_of}}
 use Rattle.lc_level.specs.Level.{FileLineModel}
@@ -16,7 +16,6 @@ path_of_line Table form f = refl
 path_of_line Json form f = refl
 path_of_line Csv form f = refl
 path_of_line Markdown form f = refl
-path_of_line Html form f = refl
 
 paths_of_lines : (format : Format) (form : Form) (fs : List FileLineModel)
     → map (path_at (file_columns format form.by)) (lines_of (file_value form) (file_columns format form.by) fs)
@@ -40,6 +39,6 @@ sheet_files_law options r s section sheet there =
     let view = view_of options.top sheet.has.rows (listed_files options.files sheet.files) in (
       sheet.files,
       sheet.are_files,
-      paths_listed options.files options.format (form_of options r.totals view.rows) options.top sheet.files section
+      paths_listed options.files (sheet_format options.output) (form_of options r.totals view.rows) options.top sheet.files section
           (sym (ap (λ (t : SheetModel). t.files) sheet.has.is) ∙ there),
     )

@@ -2,9 +2,9 @@
 use Rattle.std.proofs.Common.{◌≡◌, ℕ, ◌+◌, Bool, true, false, List, [], ◌∷◌, ◌++◌, map, Option, Some, None, refl, sym, ap, ap₂, ◌∙◌}
 use Rattle.std.proofs.{Common.{subst, arith, codes, if◌then◌else◌}, lemmas.List.{Sums.sum_by-cons, Sorted.sum_by-IsPermutation}}
 use Rattle.std.specs.Prelude.{unwrap_or}
-use Rattle.lc_sheet.specs.{Sheets.{SheetModel, line_of, lines_of}, Values.ValueModel}
+use Rattle.lc_sheet.specs.{Sheets.{SheetModel, line_of, lines_of, sheet_format}, Values.ValueModel}
 use Rattle.lc_sheet.specs.declared.{column.{Column.Column, Number.{Number, TheVariants.{Files, Lines, Blank, Bytes}}}, form.Form.Form}
-use Rattle.lc_sheet.specs.declared.table_options.Format.{Format, TheVariants.{Tsv, Table, Json, Csv, Markdown, Html}}
+use Rattle.lc_sheet.specs.declared.table_options.Format.{Format, TheVariants.{Tsv, Table, Json, Csv, Markdown}}
 use Rattle.lc_sheet.specs.declared.table_options.TableOptions.{TableOptions}
 use Rattle.lc_walk.proofs.RowSums.{same_sums}
 use Rattle.lc_walk.specs.{Sums.{no_files, one_file, plus}, TallyRows.TallyRowModel, declared.tally.sums.Sums.Sums}
@@ -104,8 +104,8 @@ has_before n (c ∷ front) cs has =
 
 rows_have : (n : Number) (options : TableOptions) → has_number n (row_columns options) ≡ true
 rows_have n options =
-    let keys = key_columns (keeps_columns options.format) options.by in
-    has_before n (keys ++ number_columns) (if options.share then share_columns options.format else [])
+    let keys = key_columns (keeps_columns (sheet_format options.output)) options.by in
+    has_before n (keys ++ number_columns) (if options.share then share_columns (sheet_format options.output) else [])
     (has_behind n keys number_columns (has_numbers n []))
 
 sums_have : (n : Number) (format : Format) (rows : List Column) → has_number n rows ≡ true → has_number n (sums_columns format rows) ≡ true
@@ -114,7 +114,6 @@ sums_have n Table rows has = has
 sums_have n Json rows has = has_numbers n []
 sums_have n Csv rows has = has_numbers n []
 sums_have n Markdown rows has = has
-sums_have n Html rows has = has
 
 -- ---- sums
 
@@ -197,8 +196,8 @@ sheet_totals_law options r s totals sheet n =
     let form = form_of options r.totals view.rows in
     let columns = row_columns options in
     let has = rows_have n options in
-    let of_sums = sums_have n options.format columns has in
-    let sums = sums_columns options.format columns in
+    let of_sums = sums_have n (sheet_format options.output) columns has in
+    let sums = sums_columns (sheet_format options.output) columns in
     let same : plus (sums_of_shown view.rows) (unwrap_or view.others no_files) ≡ r.totals =
     cut_totals_law options.by options.sort options.top r.rows.items files rows (listed_files options.files files) sheet.has.are_rows
     ∙ sorted_totals options.by.dir options.sort r.rows.items r.files.items files sheet.are_files ∙ sym totals in
@@ -214,8 +213,8 @@ sheet_classes_law options r s totals sheet n =
     let view = view_of options.top sheet.has.rows (listed_files options.files sheet.files) in
     let form = form_of options r.totals view.rows in
     let columns = row_columns options in
-    let sums = sums_columns options.format columns in
-    let of_sums = sums_have n options.format columns (rows_have n options) in
+    let sums = sums_columns (sheet_format options.output) columns in
+    let of_sums = sums_have n (sheet_format options.output) columns (rows_have n options) in
     let text = r.classes.text in
     let binary = r.classes.binary in
     let total : number_in n r.totals ≡ number_in n text + number_in n binary =

@@ -1,6 +1,6 @@
 -- A sheet that is made of parts.
 use Rattle.std.proofs.Common.{◌≡◌, List, nat_lt, refl}
-use Rattle.lc_sheet.specs.declared.{column.Column.Column, form.Form.Form, table_options.TableOptions.TableOptions}
+use Rattle.lc_sheet.specs.{Sheets.sheet_format, declared.{column.Column.Column, form.Form.Form, table_options.TableOptions.TableOptions}}
 use Rattle.lc_walk.specs.declared.report.Report.{Report}
 use Rattle.lc_rows.specs.{Kinds.NamedSumsModel, RowKeys.ShownRowModel, SheetColumns.{file_columns, row_columns}, Sheets.form_of}
 use Rattle.lc_rows.specs.{Sheets.{others_lines, sheet_of, sheet_with, totals_lines}, Views.ViewModel}
@@ -9,10 +9,11 @@ use Rattle.lc_level.specs.Level.{FileLineModel}
 -- where each part is that of a view, the sheet is that of the view
 pub made : (options : TableOptions) (r : Report) (v : ViewModel) (form : Form)
     (columns of_files : List Column) (rows : List ShownRowModel) (others totals : List NamedSumsModel) (files : List FileLineModel)
-    → form ≡ form_of options r.totals rows → columns ≡ row_columns options → of_files ≡ file_columns options.format options.by
+    → form ≡ form_of options r.totals rows → columns ≡ row_columns options
+    → of_files ≡ file_columns (sheet_format options.output) options.by
     → rows ≡ v.rows → others ≡ others_lines v.others → totals ≡ totals_lines r.totals r.classes → files ≡ v.files
     → sheet_with (record {
-      format = options.format;
+      format = sheet_format options.output;
       form = form;
       columns = columns;
       file_columns = of_files;

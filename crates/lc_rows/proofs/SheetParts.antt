@@ -3,7 +3,7 @@ use Rattle.std.proofs.Common.{◌≡◌, ◌≤◌, ℕ, Bool, true, false, List
 use Rattle.std.proofs.{Common.{codes, if◌then◌else◌}, lemmas.List.Elements.{All-cons, All-map, All-nil}}
 use Rattle.std.specs.{Prelude.{is_some, unwrap_or}, List.All}
 use Rattle.lc_rules.specs.declared.states.TextState.{TextState}
-use Rattle.lc_sheet.specs.{Sheets.{SheetModel, line_of}, Values.ValueModel, declared.column.{Column.Column, Number.Number}}
+use Rattle.lc_sheet.specs.{Sheets.{SheetModel, line_of, sheet_format}, Values.ValueModel, declared.column.{Column.Column, Number.Number}}
 use Rattle.lc_sheet.specs.declared.{form.{Form.Form, Shares.Shares}, table_options.TableOptions.TableOptions}
 use Rattle.lc_walk.specs.{Sums.{no_files, plus}, declared.{report.Report.Report, tally.sums.Sums.Sums}}
 use Rattle.lc_rows.specs.Kinds.{NamedSumsModel, bar_value, directory_value, extension_value, kept_value, named_in, row_value, share_value}
@@ -15,7 +15,6 @@ use Rattle.lc_rows.proofs.{RowLaws.totals_law, RowParts.{first_are, rows_within_
 use Rattle.lc_rows.proofs.{SheetLawProofs.{number_plus, sorted_totals, text_line, total_line}, ViewLaws.cut_totals_law}
 use Rattle.lc_rules.specs.declared.states.TextState.TheVariants as text
 use Rattle.lc_sheet.specs.declared.column.Column.TheVariants as column
-use Rattle.lc_walk.specs.declared.tally.classes.ClassSums.{ClassSums}
 
 -- ---- values
 
@@ -155,7 +154,8 @@ sheet_parts_law options r s totals sheet =
     (bar_within options.share quota (get_or shown i d).sums (bars i d low)) in
     let files = listed_files options.files sheet.files in
     let others : IsSectionWithin (sheet_of options r (view_of options.top rows files)).others =
-    sums_section_within options r.totals shown (sums_columns options.format columns) (others_lines (view_of options.top rows files).others)
+    sums_section_within options r.totals shown (sums_columns (sheet_format options.output) columns)
+    (others_lines (view_of options.top rows files).others)
     (others_under n (sums_of_shown shown) r.totals (view_of options.top rows files).others
     (cut_totals_law options.by options.sort options.top r.rows.items sheet.files rows files sheet.has.are_rows
     ∙ sorted_totals options.by.dir options.sort r.rows.items r.files.items sheet.files sheet.are_files ∙ sym totals)) in
@@ -166,5 +166,6 @@ pub class_parts_law : ClassPartsLaw
 class_parts_law options r s totals sheet =
     let view = view_of options.top sheet.has.rows (listed_files options.files sheet.files) in
     subst (λ (t : SheetModel). IsSectionWithin t.totals) (sym sheet.has.is)
-    (sums_section_within options r.totals view.rows (sums_columns options.format (row_columns options)) (totals_lines r.totals r.classes)
+    (sums_section_within options r.totals view.rows (sums_columns (sheet_format options.output) (row_columns options))
+    (totals_lines r.totals r.classes)
     (classes_under (share_number options.sort) r totals))

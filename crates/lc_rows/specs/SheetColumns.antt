@@ -2,11 +2,10 @@
 use Rattle.std.specs.Prelude.{Bool, true, false, if◌then◌else◌, List, [], ◌∷◌, ◌++◌, is_some}
 use Rattle.lc_rows.specs.declared.columns.TheConstants.{LISTED_FAULTS, LISTED_FILES, LISTED_SKIPPED, NUMBERS, RECORDED_FILES}
 use Rattle.lc_rows.specs.declared.columns.TheConstants.{SKIPPED_RECORDS}
-use Rattle.lc_sheet.specs.declared.column.Column.{Column}
-use Rattle.lc_sheet.specs.declared.table_options.{Columns.Columns, Format.{Format, TheVariants.{Tsv, Table, Json, Csv, Markdown, Html}}}
+use Rattle.lc_sheet.specs.{Sheets.sheet_format, declared.column.Column.Column}
+use Rattle.lc_sheet.specs.declared.table_options.{Columns.Columns, Format.{Format, TheVariants.{Tsv, Table, Json, Csv, Markdown}}}
 use Rattle.lc_sheet.specs.declared.table_options.TableOptions.{TableOptions}
 use Rattle.lc_sheet.specs.declared.column.Column.TheVariants as column
-use Rattle.lc_sheet.specs.declared.column.Number.TheVariants as number
 
 abbrev pub column_if : Bool → Column → List Column
 column_if kept c = if kept then c ∷ [] else []
@@ -35,14 +34,13 @@ number_columns = NUMBERS
 -- the columns of shares and bars
 abbrev pub share_columns : Format → List Column
 share_columns Table = column.Share ∷ column.Bar ∷ []
-share_columns Html = column.Share ∷ column.Bar ∷ []
 share_columns Markdown = column.Share ∷ []
 share_columns other = []
 
 abbrev pub row_columns : TableOptions → List Column
 row_columns options =
-    key_columns (keeps_columns options.format) options.by ++ number_columns
-    ++ (if options.share then share_columns options.format else [])
+    key_columns (keeps_columns (sheet_format options.output)) options.by ++ number_columns
+    ++ (if options.share then share_columns (sheet_format options.output) else [])
 
 -- the columns of sums in a table whose rows have these columns: only numbers in the formats in which sums have no line among the rows
 abbrev pub sums_columns : Format → List Column → List Column

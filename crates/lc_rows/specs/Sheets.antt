@@ -1,6 +1,6 @@
 -- The sheet of a report.
 use Rattle.std.specs.Prelude.{◌≡◌, ℕ, max, Bool, false, if◌then◌else◌, List, [], ◌∷◌, codes, unwrap_or, nat_lt, Option, Some, None}
-use Rattle.lc_sheet.specs.{Sheets.{SectionModel, SheetModel, lines_of}, Values.ValueModel}
+use Rattle.lc_sheet.specs.{Sheets.{SectionModel, SheetModel, lines_of, sheet_format}, Values.ValueModel}
 use Rattle.lc_sheet.specs.declared.{column.{Column.Column, Number.{Number, TheVariants.Lines}}, form.{Form.Form, Shares.Shares}}
 use Rattle.lc_sheet.specs.declared.table_options.{Format.Format, TableOptions.TableOptions}
 use Rattle.lc_walk.specs.declared.{report.Report.Report, tally.{classes.ClassSums.ClassSums, sums.Sums.Sums}}
@@ -27,7 +27,7 @@ shares_of n totals rs = record { number = n; total = number_in n totals; largest
 abbrev pub form_of : TableOptions → Sums → List ShownRowModel → Form
 form_of options totals rs = record {
   by = options.by;
-  first = first_key (keeps_columns options.format) options.by;
+  first = first_key (keeps_columns (sheet_format options.output)) options.by;
   shares = if options.share then Some (shares_of (share_number options.sort) totals rs) else None;
 }
 
@@ -88,10 +88,10 @@ sheet_with m r = record {
 
 abbrev pub shown_of : TableOptions → Report → ViewModel → ShownModel
 shown_of options r v = record {
-  format = options.format;
+  format = sheet_format options.output;
   form = form_of options r.totals v.rows;
   columns = row_columns options;
-  file_columns = file_columns options.format options.by;
+  file_columns = file_columns (sheet_format options.output) options.by;
   rows = v.rows;
   others = others_lines v.others;
   totals = totals_lines r.totals r.classes;

@@ -3,6 +3,7 @@
 ghost use Rattle.std.specs.Prelude.{◌≡◌, ◌++◌, if◌then◌else◌, [], IfOk, OnOk};
 ghost use Rattle.lc_rows.specs.SheetColumns.{column_if, file_columns, first_key, keeps_columns, key_columns, row_columns};
 ghost use Rattle.lc_rows.specs.SheetColumns.{share_columns, skipped_columns, sums_columns};
+ghost use Rattle.lc_sheet.specs.Sheets.{sheet_format};
 
 use lc_sheet::{Column, Columns, Format, Number, TableOptions};
 use std::alloc::{AllocError, Global};
@@ -86,7 +87,7 @@ fn share_columns(format: Format) -> &'static [Column]
     ensures { result.now ≡ share_columns format }
 {
     match format {
-        Format::Table | Format::Html => &[Column::Share, Column::Bar],
+        Format::Table => &[Column::Share, Column::Bar],
         Format::Markdown => &[Column::Share],
         Format::Tsv | Format::Json | Format::Csv => &[],
     }
@@ -105,10 +106,10 @@ pub fn push_keys(columns: &mut Vec<Column>, all: bool, by: Columns) -> Result<()
 
 fn push_shares(columns: &mut Vec<Column>, options: &TableOptions) -> Result<(), AllocError>
     ensures { OnOk result (columns.new.items
-        ≡ columns.old.items ++ (if options.now.share then share_columns options.now.format else [])) }
+        ≡ columns.old.items ++ (if options.now.share then share_columns (sheet_format options.now.output) else [])) }
 {
     if options.share {
-        columns.extend_from_slice(share_columns(options.format))
+        columns.extend_from_slice(share_columns(options.output.sheet_format()))
     } else {
         Ok(())
     }
@@ -119,7 +120,11 @@ pub(crate) fn row_columns(alloc: Global, options: &TableOptions) -> Result<Vec<C
     ensures { IfOk result (λ columns. columns.items ≡ row_columns options.now) }
 {
     let mut columns = Vec::new(alloc);
-    push_keys(&mut columns, keeps_columns(options.format), options.by)?;
+    push_keys(
+        &mut columns,
+        keeps_columns(options.output.sheet_format()),
+        options.by,
+    )?;
     columns.extend_from_slice(&NUMBERS)?;
     push_shares(&mut columns, options)?;
     Ok(columns)
@@ -131,7 +136,7 @@ pub(crate) fn sums_columns(format: Format, rows: &[Column]) -> &[Column]
 {
     match format {
         Format::Json | Format::Csv => &NUMBERS,
-        Format::Tsv | Format::Table | Format::Markdown | Format::Html => rows,
+        Format::Tsv | Format::Table | Format::Markdown => rows,
     }
 }
 
@@ -150,9 +155,7 @@ pub(crate) fn file_columns(
             push_if(&mut columns, by.dir.is_some(), Column::Dir)?;
             columns.extend_from_slice(&RECORDED_FILES)?;
         }
-        Format::Tsv | Format::Table | Format::Markdown | Format::Html => columns.extend_from_slice(
-            &LISTED_FILES,
-        )?,
+        Format::Tsv | Format::Table | Format::Markdown => columns.extend_from_slice(&LISTED_FILES)?,
     }
     Ok(columns)
 }
@@ -162,7 +165,7 @@ pub(crate) fn skipped_columns(format: Format) -> &'static [Column]
     ensures { result.now ≡ skipped_columns format }
 {
     match format {
-        Format::Tsv | Format::Table | Format::Markdown | Format::Html => &LISTED_SKIPPED,
+        Format::Tsv | Format::Table | Format::Markdown => &LISTED_SKIPPED,
         Format::Json | Format::Csv => &SKIPPED_RECORDS,
     }
 }

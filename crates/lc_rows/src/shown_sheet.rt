@@ -88,7 +88,7 @@ fn form_of(options: &TableOptions, totals: Sums, rows: &[ShownRow<'_>]) -> Form
     };
     Form {
         by: options.by,
-        first: first_key(options.format, options.by),
+        first: first_key(options.output.sheet_format(), options.by),
         shares,
     }
 }
@@ -186,11 +186,12 @@ impl<'a> Shown<'a> {
         let (files, _) = split_at_top(options.top, listed_files(options.files, &report.files));
         let others = others_sums(options.top, &rows)?;
         cut(options.top, &mut rows);
+        let format = options.output.sheet_format();
         let shown = Shown {
-            format: options.format,
+            format,
             form: form_of(options, report.totals, &rows),
             columns: row_columns(alloc, options)?,
-            file_columns: file_columns(alloc, options.format, options.by)?,
+            file_columns: file_columns(alloc, format, options.by)?,
             rows,
             others: others_lines(alloc, others)?,
             totals: totals_lines(alloc, report.totals, report.classes)?,

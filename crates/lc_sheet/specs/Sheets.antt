@@ -1,6 +1,7 @@
 -- A sheet: what a report shows, as sections of lines, each with a value in each column.
 use Rattle.std.specs.Prelude.{ℕ, Bool, List, map, Option}
-use Rattle.lc_sheet.specs.{Values.ValueModel, declared.column.Column.Column}
+use Rattle.lc_sheet.specs.{Values.ValueModel, declared.{column.Column.Column, table_options.Format.{Format, TheVariants.Table}}}
+use Rattle.lc_sheet.specs.declared.table_options.Output.{Output, TheVariants.{Text, Picture}}
 
 -- a section: a word that may name its lines, its columns, and for each line its values in these columns
 pub record SectionModel : Type 0 where
@@ -29,3 +30,8 @@ pub record SheetModel : Type 0 where
   pub files : Option SectionModel
   pub skipped : Option SectionModel
   pub faults : Option SectionModel
+
+-- the format of the sheet that is shown: a picture draws the sheet of a table
+abbrev pub sheet_format : Output → Format
+sheet_format (Text format) = format
+sheet_format Picture = Table

@@ -26,5 +26,5 @@ pub use form::{Form, Shares};
 pub use lines::Lines;
 pub use section::Section;
 pub use sheet::Sheet;
-pub use table_options::{Columns, Format, Order, ReportOptions, TableOptions};
+pub use table_options::{Columns, Format, Order, Output, ReportOptions, TableOptions};
 pub use value::Value;

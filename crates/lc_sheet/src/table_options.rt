@@ -1,9 +1,12 @@
 //! The options of a table: its format, its columns, its order, where it is cut, and which files it shows.
 
+ghost use Rattle.std.specs.Prelude.{◌≡◌};
+ghost use Rattle.lc_sheet.specs.Sheets.{sheet_format};
+
 use crate::column::Number;
 use crate::condition::Condition;
 
-/// The format in which a table is written.
+/// The format in which the text of a table is written.
 #[derive(Debug, Clone, Copy, PartialEq, Eq)]
 pub enum Format {
     /// Lines of fields, with tabs between the fields.
@@ -16,8 +19,27 @@ pub enum Format {
     Csv,
     /// Tables of GitHub Flavored Markdown.
     Markdown,
+}
+
+/// What a report is shown as: what a value of `--format` names.
+#[derive(Debug, Clone, Copy, PartialEq, Eq)]
+pub enum Output {
+    /// The text of a table.
+    Text(Format),
     /// A page of HTML, in place of rows, with bars for the 20 largest extensions, and boxes for large directories and files.
-    Html,
+    Picture,
+}
+
+impl Output {
+    /// Returns the format of the sheet that is shown: a picture draws the sheet of a `Table`.
+    pub fn sheet_format(self) -> Format
+        ensures { result ≡ sheet_format self }
+    {
+        match self {
+            Output::Text(format) => format,
+            Output::Picture => Format::Table,
+        }
+    }
 }
 
 /// The columns that the rows of a table are grouped by. Rows that have the same values in these columns are added up.
@@ -56,12 +78,12 @@ pub enum Order {
 /// The options of a table.
 ///
 /// ```
-/// let options = TableOptions { format: Format::Tsv, by: Columns::ALL, sort: None, top: Some(10), files: false, share: false };
+/// let options = TableOptions { output: Output::Text(Format::Tsv), by: Columns::ALL, sort: None, top: Some(10), files: false, share: false };
 /// ```
 #[derive(Debug, Clone, Copy, PartialEq, Eq)]
 pub struct TableOptions {
-    /// The format in which the table is written.
-    pub format: Format,
+    /// What the report is shown as: a text in some format, or a picture.
+    pub output: Output,
     /// The columns that the table's rows are grouped by.
     pub by: Columns,
     /// The number by which rows and files are sorted, largest first. Rows with equal numbers are in the order of their keys, and files with

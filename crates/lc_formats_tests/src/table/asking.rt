@@ -6,7 +6,7 @@ ghost use Rattle.lc_walk.specs.WalkOptions.{AreWithinLimits};
 use lc_board::{Locked, Shared, Words};
 use lc_level::{Filters, Job, RuleText, read_rule_text};
 use lc_program::{RunFault, run, table};
-use lc_sheet::{Columns, Format, ReportOptions, TableOptions};
+use lc_sheet::{Columns, Format, Output, ReportOptions, TableOptions};
 use lc_tests::Sketch;
 use lc_tests::trees::BytewiseTree;
 use lc_tests::writers::{Narrow, WhenFull};
@@ -65,7 +65,7 @@ pub(super) struct Case<'a> {
 
 /// The options of a table with tabs, with all columns, whose rows are in the order of their keys.
 pub(super) const TSV: TableOptions = TableOptions {
-    format: Format::Tsv,
+    output: Output::Text(Format::Tsv),
     by: Columns::ALL,
     sort: None,
     top: None,

@@ -4,7 +4,7 @@ use crate::table::asking::{HEADER, TSV};
 use crate::table::tables::{Case, NONE, compare_all};
 use lc_census::Eol;
 use lc_rules::TextState;
-use lc_sheet::{Format, Number, TableOptions};
+use lc_sheet::{Format, Number, Output, TableOptions};
 use std::test::Fail;
 
 const LINES_TOP_1: TableOptions = TableOptions {
@@ -149,7 +149,7 @@ const TABS: &[Case] = &[
 const SCREENS: &[Case] = &[Case {
     name: "the_first_in_columns",
     options: TableOptions {
-        format: Format::Table,
+        output: Output::Text(Format::Table),
         ..LINES_TOP_1
     },
     lines: b"text  eol  lines  blank  bytes  file\n\
@@ -169,7 +169,7 @@ const SCREENS: &[Case] = &[Case {
 const JSON: &[Case] = &[Case {
     name: "the_first_as_json",
     options: TableOptions {
-        format: Format::Json,
+        output: Output::Text(Format::Json),
         ..LINES_TOP_1
     },
     lines: b"{\"rows\":[{\"ext\":\".c\",\"text\":\"set\",\"eol\":\"lf\",\"files\":2,\"lines\":10,\

@@ -4,7 +4,7 @@ use crate::table::asking::TSV;
 use crate::table::tables::{Case, NONE, compare_as_asked};
 use lc_census::Eol;
 use lc_rules::TextState;
-use lc_sheet::{Columns, Format, Number, TableOptions};
+use lc_sheet::{Columns, Format, Number, Output, TableOptions};
 use std::test::Fail;
 
 const HEADER: &[u8] = b"dir\text\ttext\teol\tfiles\tlines\tblank\tbytes\n";
@@ -77,7 +77,7 @@ const OTHER_FORMATS: &[Case] = &[
     Case {
         name: "in_columns_by_lines",
         options: TableOptions {
-            format: Format::Table,
+            output: Output::Text(Format::Table),
             sort: Some(Number::Lines),
             ..BY_DIR
         },
@@ -95,7 +95,7 @@ const OTHER_FORMATS: &[Case] = &[
     Case {
         name: "as_json",
         options: TableOptions {
-            format: Format::Json,
+            output: Output::Text(Format::Json),
             ..BY_DIR
         },
         lines: b"{\"rows\":[{\"dir\":\".\",\"files\":1,\"lines\":4,\"blank\":1,\"bytes\":9},{\"dir\":\"a|b\",\"files\":1,\"lines\":3\
@@ -107,7 +107,7 @@ const OTHER_FORMATS: &[Case] = &[
     Case {
         name: "rows_as_csv",
         options: TableOptions {
-            format: Format::Csv,
+            output: Output::Text(Format::Csv),
             ..BY_DIR
         },
         lines: b"dir,files,lines,blank,bytes\n\
@@ -119,7 +119,7 @@ const OTHER_FORMATS: &[Case] = &[
     Case {
         name: "files_as_csv",
         options: TableOptions {
-            format: Format::Csv,
+            output: Output::Text(Format::Csv),
             files: true,
             sort: None,
             top: None,
@@ -136,7 +136,7 @@ const OTHER_FORMATS: &[Case] = &[
     Case {
         name: "as_markdown_with_shares_and_others",
         options: TableOptions {
-            format: Format::Markdown,
+            output: Output::Text(Format::Markdown),
             sort: Some(Number::Lines),
             top: Some(2),
             share: true,
@@ -160,7 +160,7 @@ const OTHER_FORMATS: &[Case] = &[
 const NO_TEXT: &[Case] = &[Case {
     name: "directories_that_are_no_text",
     options: TableOptions {
-        format: Format::Json,
+        output: Output::Text(Format::Json),
         ..BY_DIR
     },
     rows: &[(None, NONE, Eol::Lf, [1, 1, 0, 2])],
@@ -179,7 +179,7 @@ const JSON_FILES: &[Case] = &[
     Case {
         name: "files_as_json_by_one_directory",
         options: TableOptions {
-            format: Format::Json,
+            output: Output::Text(Format::Json),
             files: true,
             ..BY_DIR
         },
@@ -198,7 +198,7 @@ const JSON_FILES: &[Case] = &[
     Case {
         name: "files_as_json_by_two_directories",
         options: TableOptions {
-            format: Format::Json,
+            output: Output::Text(Format::Json),
             files: true,
             sort: None,
             top: None,
@@ -221,7 +221,7 @@ const JSON_FILES: &[Case] = &[
     Case {
         name: "files_as_json_that_are_no_text",
         options: TableOptions {
-            format: Format::Json,
+            output: Output::Text(Format::Json),
             files: true,
             ..BY_DIR
         },

@@ -6,11 +6,11 @@ use crate::table::tables::{Case, NONE, compare_as_asked};
 use lc_census::Eol;
 use lc_level::FaultWord;
 use lc_rules::TextState;
-use lc_sheet::{Columns, Format, TableOptions};
+use lc_sheet::{Columns, Format, Output, TableOptions};
 use std::test::Fail;
 
 const MARKDOWN: TableOptions = TableOptions {
-    format: Format::Markdown,
+    output: Output::Text(Format::Markdown),
     ..TSV
 };
 

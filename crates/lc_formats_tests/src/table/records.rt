@@ -6,11 +6,11 @@ use crate::table::tables::{Case, NONE, compare_as_asked};
 use lc_census::Eol;
 use lc_level::FaultWord;
 use lc_rules::TextState;
-use lc_sheet::{Columns, Format, Number, TableOptions};
+use lc_sheet::{Columns, Format, Number, Output, TableOptions};
 use std::test::Fail;
 
 const CSV: TableOptions = TableOptions {
-    format: Format::Csv,
+    output: Output::Text(Format::Csv),
     ..TSV
 };
 

@@ -5,11 +5,11 @@ use crate::table::tables::{Case, NONE, compare_all};
 use lc_census::Eol;
 use lc_level::FaultWord;
 use lc_rules::TextState;
-use lc_sheet::{Columns, Format, Number, TableOptions};
+use lc_sheet::{Columns, Format, Number, Output, TableOptions};
 use std::test::Fail;
 
 const SCREEN: TableOptions = TableOptions {
-    format: Format::Table,
+    output: Output::Text(Format::Table),
     ..TSV
 };
 

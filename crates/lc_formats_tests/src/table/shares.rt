@@ -6,11 +6,11 @@ use crate::table::tables::{Case, NONE, compare_as_asked};
 use lc_census::Eol;
 use lc_formats::push_number;
 use lc_rules::TextState;
-use lc_sheet::{Format, Number, TableOptions};
+use lc_sheet::{Format, Number, Output, TableOptions};
 use std::test::Fail;
 
 const SHARES: TableOptions = TableOptions {
-    format: Format::Table,
+    output: Output::Text(Format::Table),
     share: true,
     ..TSV
 };

@@ -5,7 +5,7 @@ use crate::table::screens::EMPTY;
 use crate::table::tables::{has_parts, report_of};
 use lc_level::Reason;
 use lc_rules::RuleSource::{self, ExcludeFrom, Gitignore, InfoExclude};
-use lc_sheet::{Format, TableOptions};
+use lc_sheet::{Format, Output, TableOptions};
 use lc_tree::Kind;
 use lc_tree::OtherKind::{self, Mounted, Special};
 use lc_walk::{Report, ReportLists, SkippedLine};
@@ -148,7 +148,7 @@ fn left_out_in_each_format(rt: HostRuntime) -> Result<(), Fail> {
     for (format, files, header, lines) in CASES {
         let report = report_with(rt.alloc(), LEFT)?;
         let options = TableOptions {
-            format: *format,
+            output: Output::Text(*format),
             files: *files,
             ..TSV
         };

@@ -3,14 +3,14 @@
 use lc_formats::text;
 use lc_reading::{ReadFault, read_reports};
 use lc_rows::Shown;
-use lc_sheet::{Columns, Format, TableOptions};
+use lc_sheet::{Columns, Format, Output, TableOptions};
 use lc_walk::Report;
 use std::alloc::{AllocError, Global};
 use std::process::Abort;
 use std::test::Fail;
 
 const ROWS: TableOptions = TableOptions {
-    format: Format::Json,
+    output: Output::Text(Format::Json),
     by: Columns::ALL,
     sort: None,
     top: None,
@@ -146,7 +146,7 @@ fn text_of(alloc: Global, read: &Report, by: Columns, files: bool) -> Result<Vec
         ..ROWS
     };
     let shown = Shown::of(alloc, read, &options)?;
-    text(alloc, options.format, &shown.sheet())
+    text(alloc, options.output.sheet_format(), &shown.sheet())
 }
 
 /// Returns the reports of a text, if it is read.

@@ -7,7 +7,7 @@ use lc_census::Eol;
 use lc_level::{FaultWord, Reason};
 use lc_rows::{ReportSheet, Shown};
 use lc_rules::{RuleSource, TextState};
-use lc_sheet::{Columns, Format, Lines, Number, Section, TableOptions, Value};
+use lc_sheet::{Columns, Format, Lines, Number, Output, Section, TableOptions, Value};
 use lc_text::push_name;
 use lc_tree::Kind;
 use lc_walk::{ClassSums, FaultLine, Report, ReportLists, SkippedLine};
@@ -23,7 +23,7 @@ const FILES: &[File] = &[
 ];
 
 const TSV: TableOptions = TableOptions {
-    format: Format::Tsv,
+    output: Output::Text(Format::Tsv),
     by: BY_DIRECTORY,
     sort: None,
     top: Some(2),
@@ -163,7 +163,7 @@ fn the_values_of_lines(rt: HostRuntime) -> Result<(), Fail> {
 #[test]
 fn shares_and_bars(rt: HostRuntime) -> Result<(), Fail> {
     let options = TableOptions {
-        format: Format::Table,
+        output: Output::Text(Format::Table),
         sort: Some(Number::Lines),
         files: false,
         share: true,

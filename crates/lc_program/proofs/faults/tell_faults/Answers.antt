@@ -4,7 +4,7 @@ use Rattle.lc_program.proofs.faults.tell_faults.Goals as goal
 
 pub returns-in-Ok : goal.returns-in-Ok
 returns-in-Ok g c =
-    faults_told g.E.Sink.may_take (g.Y.System.unlists c.args.system.now) (map (λ d. d.now) c.args.directories.now) c.args.format
+    faults_told g.E.Sink.may_take (g.Y.System.unlists c.args.system.now) (map (λ d. d.now) c.args.directories.now) c.args.output
     c.args.faults.now
     (string_bytes c.in-Ok.text) c.args.err.now c.print.new.out (sym c.is_empty.ensures ∙ c.if-is_empty.false) c.in-Ok.ensures
     (made_and_printed g.E.Sink.may_take c.args.err.now (string_bytes c.in-Ok.text) c.as_bytes.result.now (string_bytes c.in-Ok.text)

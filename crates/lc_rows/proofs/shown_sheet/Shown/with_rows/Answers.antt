@@ -1,6 +1,6 @@
 use Rattle.std.proofs.Common.{List, ap, ◌∙◌}
-use Rattle.lc_rows.specs.{RowKeys.ShownRowModel, Sheets.{form_of, listed_files, others_lines}, Views.{first_of, rest_of, sums_of_some}}
-use Rattle.lc_rows.specs.Views.{view_of}
+use Rattle.lc_rows.specs.{RowKeys.ShownRowModel, SheetColumns.file_columns, Sheets.{form_of, listed_files, others_lines}}
+use Rattle.lc_rows.specs.Views.{first_of, rest_of, sums_of_some, view_of}
 use Rattle.lc_rows.proofs.SheetMade.{made}
 use Rattle.lc_rows.proofs.shown_sheet.Shown.with_rows.Goals as goal
 
@@ -13,9 +13,10 @@ returns c =
     let is_form = c.form_of.ensures ∙ ap (form_of options report.totals) c.deref-3.ensures.value in
     let others = c.in_ok-others.ensures
     ∙ ap (λ (rs : List ShownRowModel). sums_of_some (rest_of options.top rs)) c.deref-2.ensures.value in
-    made options report (view_of options.top rows (listed_files options.files report.files.items)) c.form_of.result
+    let format = c.sheet_format-format.ensures in
+    rw format (made options report (view_of options.top rows (listed_files options.files report.files.items)) c.form_of.result
     c.in_ok-row_columns.field-0.items c.in_ok-file_columns.field-0.items c.cut.new.rows.items c.in_ok-others_lines.field-0.items
     c.in_ok-totals_lines.field-0.items c.split_at_top.result.0.now is_form c.in_ok-row_columns.ensures
-    c.in_ok-file_columns.ensures c.cut.ensures
+    (c.in_ok-file_columns.ensures ∙ ap (λ f. file_columns f options.by) format) c.cut.ensures
     (c.in_ok-others_lines.ensures ∙ ap others_lines others) c.in_ok-totals_lines.ensures
-    (c.split_at_top.ensures.first ∙ ap (first_of options.top) listed)
+    (c.split_at_top.ensures.first ∙ ap (first_of options.top) listed))
