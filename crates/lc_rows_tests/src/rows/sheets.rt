@@ -160,6 +160,23 @@ fn the_values_of_lines(rt: HostRuntime) -> Result<(), Fail> {
     Ok(())
 }
 
+/// Returns whether a sheet shows the sums over text and over binary files, if its report has this many files in each class.
+fn shows_classes(alloc: Global, text: u64, binary: u64) -> Result<bool, AllocError> {
+    let mut report = report(alloc)?;
+    report.classes = ClassSums {
+        text: sums([text, 11, 1, 59]),
+        binary: sums([binary, 3, 1, 15]),
+    };
+    let shown = Shown::of(alloc, &report, &TSV)?;
+    Ok(shown.sheet().some_binary)
+}
+
+#[test]
+fn sums_over_binary_files_are_shown_if_there_are_any(rt: HostRuntime) -> Result<(), Fail> {
+    assert!(rt; shows_classes(rt.alloc(), 2, 1)? && !shows_classes(rt.alloc(), 3, 0)?);
+    Ok(())
+}
+
 #[test]
 fn shares_and_bars(rt: HostRuntime) -> Result<(), Fail> {
     let options = TableOptions {
