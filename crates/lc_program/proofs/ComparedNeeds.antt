@@ -6,7 +6,7 @@ use Rattle.lc_io.specs.Reads.{Answer}
 use Rattle.lc_program.specs.{Differences.{change_options, compared_columns, compared_needs}, Sides.GivesSides, Systems.SystemMay}
 use Rattle.lc_program.specs.declared.cause.Cause.{Cause}
 use Rattle.lc_sheet.specs.declared.table_options.Format.{Format}
-use Rattle.lc_sums.specs.declared.needs.Needs.{Needs}
+use Rattle.lc_reports.specs.declared.needs.Needs.{Needs}
 use Rattle.lc_walk.specs.declared.{options.Options.Options, report.Report.Report}
 use Rattle.lc_sheet.specs.Conditions as condition
 

@@ -6,7 +6,7 @@ use Rattle.lc_arguments.specs.{Reports.report_model, declared.reports.NamedRepor
 use Rattle.lc_io.specs.Reads.{Answer}
 use Rattle.lc_program.specs.ReportFiles.{AnswersParts, ReadsAll, ReadsParts, Refuses, RefusesFirst, Typed}
 use Rattle.lc_program.specs.declared.{cause.Cause.{Cause, TheVariants.Memory}, unread_reason.UnreadReason.UnreadReason}
-use Rattle.lc_sums.specs.declared.part.Part.{Part}
+use Rattle.lc_reports.specs.declared.part.Part.{Part}
 use Rattle.lc_tree.specs.Trees.{Contents}
 
 -- the error of a result is the one that it is

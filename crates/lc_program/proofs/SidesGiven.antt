@@ -7,7 +7,7 @@ use Rattle.lc_level.specs.FaultLines.{FaultLineModel}
 use Rattle.lc_program.specs.{Faults.has_path, Reasons.unexplained_line, ReportFiles.Refuses, ReportLines.IsTold, Sides.CountsSide}
 use Rattle.lc_program.specs.{Sides.{GivesSide, GivesSides, ReadsSide}, Systems.SystemMay, WalkRequests.entered_by}
 use Rattle.lc_program.specs.declared.{cause.Cause.{Cause, TheVariants.Memory}, unread_reason.UnreadReason.UnreadReason}
-use Rattle.lc_sums.specs.declared.needs.Needs.{Needs}
+use Rattle.lc_reports.specs.declared.needs.Needs.{Needs}
 use Rattle.lc_tree.specs.declared.file_systems.FileSystems.{FileSystems}
 use Rattle.lc_walk.specs.{Walks.Walks, declared.{options.Options.Options, report.Report.Report}}
 

@@ -14,7 +14,7 @@ use Rattle.lc_program.specs.declared.comparison.Comparison.{Comparison}
 use Rattle.lc_rows.specs.Kept.{IsKept}
 use Rattle.lc_sheet.specs.{Sheets.sheet_format, declared.column.Number.TheVariants.Lines}
 use Rattle.lc_sheet.specs.declared.table_options.{Columns.Columns, Format.Format, Order.{Order, TheVariants.{Name, Largest}}, Output.Output}
-use Rattle.lc_sums.specs.{Needs.needs_of, declared.needs.Needs.Needs}
+use Rattle.lc_reports.specs.{Needs.needs_of, declared.needs.Needs.Needs}
 use Rattle.lc_walk.specs.declared.{options.{Options.Options, ReportLists.ReportLists}, report.Report.Report}
 use Rattle.lc_io.specs.declared.printing.PrintFault.TheVariants as print
 

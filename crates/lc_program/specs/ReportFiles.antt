@@ -7,8 +7,7 @@ use Rattle.lc_program.specs.{NamedTexts.ReadsNamed, ReportLines.{IsRefusedFor, I
 use Rattle.lc_program.specs.declared.{cause.Cause.{Cause, TheVariants.Memory}, unread_reason.UnreadReason.UnreadReason}
 use Rattle.lc_reading.specs.{Texts.AreReportsOf, declared.read_fault.ReadFault.ReadFault}
 use Rattle.lc_walk.specs.declared.report.Report.{Report}
-use Rattle.lc_reports.specs.Named.{IsNamed}
-use Rattle.lc_sums.specs.declared.part.Part.{Part}
+use Rattle.lc_reports.specs.{Named.IsNamed, declared.part.Part.Part}
 use Rattle.lc_tree.specs.Trees.{Contents}
 use Rattle.lc_reading.specs.declared.read_fault.NoReport.TheVariants as why
 use Rattle.lc_reading.specs.declared.read_fault.ReadFault.TheVariants as fault

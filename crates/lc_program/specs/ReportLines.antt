@@ -7,13 +7,13 @@ use Rattle.lc_program.specs.declared.cause.Cause.{Cause, TheVariants.{InReport, 
 use Rattle.lc_program.specs.declared.unread_reason.UnreadReason.{UnreadReason}
 use Rattle.lc_reading.specs.{MemberNames.member_name, declared.read_fault.{NoReport.NoReport, Part.Part, ReadFault.ReadFault}}
 use Rattle.lc_sheet.specs.ColumnWords.{column_name}
-use Rattle.lc_sums.specs.declared.sum_fault.SumFault.{SumFault}
+use Rattle.lc_reports.specs.declared.sum_fault.SumFault.{SumFault}
 use Rattle.lc_text.specs.Visible.{visible_bytes}
 use Rattle.lc_io.specs.declared.whole.WholeFault.TheVariants as whole
 use Rattle.lc_reading.specs.declared.read_fault.NoReport.TheVariants as why
 use Rattle.lc_reading.specs.declared.read_fault.Part.TheVariants as part
 use Rattle.lc_reading.specs.declared.read_fault.ReadFault.TheVariants as fault
-use Rattle.lc_sums.specs.declared.sum_fault.SumFault.TheVariants as sum
+use Rattle.lc_reports.specs.declared.sum_fault.SumFault.TheVariants as sum
 
 -- the name that errors use for a REPORT
 abbrev pub origin_of : List ℕ → List ℕ

@@ -8,7 +8,7 @@ use Rattle.lc_program.specs.{ReportLines.{IsTold, IsUnsummedFor}, Systems.System
 use Rattle.lc_program.specs.declared.cause.Cause.{Cause, TheVariants.Memory}
 use Rattle.lc_program.specs.declared.unread_reason.UnreadReason.{UnreadReason}
 use Rattle.lc_program.specs.declared.unread_reason.UnreadReason.TheVariants.{Missing, Denied, IsDirectory, IsFile, NotDirectory, Other}
-use Rattle.lc_sums.specs.{Sums.IsSummed, declared.{needs.Needs.Needs, part.Part.Part, sum_fault.SumFault.SumFault}}
+use Rattle.lc_reports.specs.{Sums.IsSummed, declared.{needs.Needs.Needs, part.Part.Part, sum_fault.SumFault.SumFault}}
 use Rattle.lc_walk.specs.{Walks.Walks, declared.{options.Options.Options, report.Report.Report, walk_fault.WalkFault.WalkFault}}
 
 -- ---- which sides are directories

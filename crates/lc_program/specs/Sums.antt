@@ -3,11 +3,10 @@ use Rattle.std.specs.{Prelude.{◌≡◌, ◌⊎◌, ◌||◌, ℕ, List, ◌++�
 use Rattle.lc_arguments.specs.{Combinations.is_picture, Reports.report_model, TableWords.options_in, declared.sum.SumRequest.SumRequest}
 use Rattle.lc_io.specs.{Reads.Answer, declared.{printing.PrintFault.PrintFault, source.Failed.Failed}}
 use Rattle.lc_program.specs.{Causes.print_cause, Counts.one_text, Replies.Reply, ReportFiles.{AnswersParts, Typed}}
-use Rattle.lc_program.specs.{ReportLines.IsUnsummedFor, Runs.AnswersTable, Systems.SystemMay}
-use Rattle.lc_program.specs.declared.{answered.Answered.TheVariants.Summed, cause.Cause.Cause}
+use Rattle.lc_program.specs.{ReportLines.IsUnsummedFor, Runs.AnswersTable, Systems.SystemMay, declared.answered.Answered.TheVariants.Summed}
+use Rattle.lc_program.specs.declared.cause.Cause.{Cause}
 use Rattle.lc_sheet.specs.declared.table_options.Format.{Format}
-use Rattle.lc_sums.specs.{Needs.needs_of, Sums.IsSummed, declared.{needs.Needs.Needs, part.Part.Part}}
-use Rattle.lc_sums.specs.declared.sum_fault.SumFault.{SumFault}
+use Rattle.lc_reports.specs.{Needs.needs_of, Sums.IsSummed, declared.{needs.Needs.Needs, part.Part.Part, sum_fault.SumFault.SumFault}}
 use Rattle.lc_walk.specs.declared.report.Report.{Report}
 
 -- the REPORTs of the command line

@@ -13,8 +13,7 @@ use crate::system::System;
 use lc_arguments::NamedReport;
 use lc_census::Source;
 use lc_reading::read_reports;
-use lc_reports::named;
-use lc_sums::Part;
+use lc_reports::{Part, named};
 use lc_walk::Report;
 use std::alloc::{AllocError, Global};
 

@@ -12,8 +12,8 @@ use crate::unlisted::unexplained_line;
 use crate::unread_reason::UnreadReason;
 use lc_census::WholeFault;
 use lc_reading::{NoReport, Part, ReadFault};
+use lc_reports::SumFault;
 use lc_sheet::Column;
-use lc_sums::SumFault;
 use lc_text::push_visible;
 use std::alloc::{AllocError, Global};
 

@@ -195,7 +195,7 @@ fn end_of<R: Threads + Wait + Sync + AllocGlobal, Y: System, W: AsStr, S: Source
 /// - `count DIR`: reads the file of `--exclude-from`, then counts the directory DIR and prints the table ([`run`](crate::runs::run));
 /// - `explain DIR`: shows which rule of the directory DIR decides each path of the input or of the arguments
 ///   ([`explain`](lc_paths::explain));
-/// - `sum REPORT`: reads all reports, then prints the table of their sum ([`summed`](lc_sums::summed));
+/// - `sum REPORT`: reads all reports, then prints the table of their sum ([`summed`](lc_reports::summed));
 /// - `diff OLD NEW`: prints the changes from one directory or report to another ([`ShownChanges`](lc_changes::ShownChanges)).
 ///
 /// If the program reads standard input from a terminal, a line on `err` first says what the program reads. If standard output is a

@@ -14,7 +14,7 @@ use crate::system::System;
 use crate::unread_reason::UnreadReason;
 use lc_arguments::WalkRequest;
 use lc_census::Source;
-use lc_sums::{Needs, summed};
+use lc_reports::{Needs, summed};
 use lc_walk::{Options, Report};
 use std::alloc::{AllocError, Global};
 use std::sync::Wait;

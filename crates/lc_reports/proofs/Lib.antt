@@ -1,4 +1,5 @@
 pub mod AddedTotals
+pub mod AnyOrder
 pub mod Gathering
 pub mod KeyTies
 pub mod LineOrders
@@ -6,4 +7,7 @@ pub mod NamedPaths
 pub mod NumbersInTurn
 pub mod OneReport
 pub mod Orders
+pub mod PathsGathered
+pub mod RepeatedPaths
+pub mod ReportsNeeded
 pub mod Uniting

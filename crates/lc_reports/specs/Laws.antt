@@ -1,8 +1,9 @@
--- The laws of reports with a name in front of their paths, and of joined reports.
+-- The laws of reports with a name in front of their paths, of joined reports, and of sums of reports.
 use Rattle.std.specs.{Prelude.{◌≡◌, ℕ, ◌<◌, List, ◌∷◌, ◌++◌, length}, List.{All, Sorted.IsPermutation}}
 use Rattle.lc_glob.specs.Bytes.{slash}
 use Rattle.lc_level.specs.Level.{FileLineModel}
-use Rattle.lc_reports.specs.{Joined.{IsJoined, all_rows}, Named.{IsNamed, named_path, named_source}}
+use Rattle.lc_reports.specs.{Joined.{IsJoined, all_rows}, Named.{IsNamed, named_path, named_source}, Sums.{CanBeSummed, IsSumOf}}
+use Rattle.lc_reports.specs.declared.{needs.Needs.Needs, part.Part.Part}
 use Rattle.lc_rules.specs.declared.rule_source.RuleSource.{RuleSource, TheVariants.{InfoExclude, Gitignore}}
 use Rattle.lc_text.specs.RulePlaces.{source_directory}
 use Rattle.lc_walk.specs.{ReportTotals.TotalsAddUp, TallyRows.TallyRowModel, declared.report.Report.Report}
@@ -56,3 +57,8 @@ IsNamedWith name path source =
 pub record NamedRulesLaw : Type 0 where
   pub info : (name : List ℕ) (b : ℕ) (bs : List ℕ) (depth : ℕ) → IsNamedWith name (b ∷ bs) (InfoExclude depth)
   pub own : (name : List ℕ) (b : ℕ) (bs : List ℕ) (depth : ℕ) → IsNamedWith name (b ∷ bs) (Gitignore depth)
+
+-- if reports can be summed in one order, they can be summed in any order, and their sum is the same
+pub record SumOrderLaw : Type 0 where
+  pub can_be : (needs : Needs) (ps moved : List Part) → IsPermutation ps moved → CanBeSummed needs ps → CanBeSummed needs moved
+  pub sum : (needs : Needs) (ps moved : List Part) (s : Report) → IsPermutation ps moved → IsSumOf needs ps s → IsSumOf needs moved s

@@ -3,3 +3,6 @@ pub mod Joined
 pub mod Laws
 pub mod LineOrder
 pub mod Named
+pub mod Needs
+pub mod Paths
+pub mod Sums

@@ -1,5 +1,5 @@
 //! Laws: theorems about the definitions that the contracts cite. Each law is the contract of a function that does nothing.
-ghost use Rattle.lc_reports.specs.Laws.{JoinGroupLaw, JoinOnceLaw, JoinOrderLaw, JoinTotalsLaw, NameTotalsLaw, NamedRulesLaw};
+ghost use Rattle.lc_reports.specs.Laws.{JoinGroupLaw, JoinOnceLaw, JoinOrderLaw, JoinTotalsLaw, NameTotalsLaw, NamedRulesLaw, SumOrderLaw};
 
 /// The law that a joined report does not depend on the order of the reports.
 pub fn a_joined_report_has_no_order()
@@ -35,4 +35,9 @@ pub fn names_change_no_number()
 /// entry's path and in front of the path of this file. The law is not about rules of `--exclude` and `--exclude-from`.
 pub fn rules_of_a_named_report_are_in_named_files()
     ensures { NamedRulesLaw }
+{}
+
+/// The law that the order of reports changes neither their sum nor whether they can be summed.
+pub fn a_sum_has_no_order()
+    ensures { SumOrderLaw }
 {}

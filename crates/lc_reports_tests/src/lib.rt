@@ -1,5 +1,7 @@
-//! The tests of reports with a name in front of their paths, and of joined reports.
+//! The tests of reports with a name in front of their paths, of joined reports, and of sums of reports.
 #![tactic(auto)]
 
 #[cfg(test)]
 mod reports;
+#[cfg(test)]
+mod sums;

@@ -1,4 +1,0 @@
-pub mod RepeatedPaths
-pub mod PathsGathered
-pub mod ReportsNeeded
-pub mod AnyOrder

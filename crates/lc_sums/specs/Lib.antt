@@ -1,4 +1,0 @@
-pub mod Needs
-pub mod Paths
-pub mod Sums
-pub mod Laws

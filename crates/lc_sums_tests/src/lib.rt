@@ -1,5 +1,0 @@
-//! Tests of sums of reports.
-#![tactic(auto)]
-
-#[cfg(test)]
-mod sums;
