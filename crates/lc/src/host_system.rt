@@ -4,7 +4,7 @@ use crate::host_repository::repository_above;
 use crate::progress::{Opened, Progress};
 use crate::unread::{why_unlisted, why_unread};
 use crate::watched_tree::WatchedTree;
-use lc_census::StdSource;
+use lc_io::StdSource;
 use lc_program::{Repository, System, UnreadReason};
 use lc_tree::{FileSystems, ReadFault, SysTree};
 use std::alloc::{AllocError, Global};

@@ -21,9 +21,8 @@ mod watched_tree;
 
 use host_system::HostSystem;
 use lc_arguments::count_words;
-use lc_census::StdSource;
+use lc_io::{StdSink, StdSource};
 use lc_program::{Cause, Streams, Terminals, give_up, misuse, program};
-use lc_text::StdSink;
 use progress::Progress;
 use std::alloc::AllocError;
 use std::env;

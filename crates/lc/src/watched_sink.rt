@@ -1,8 +1,7 @@
 //! Outputs that erase the progress line of a long count before each write.
 
 use crate::progress::Progress;
-use lc_census::Failed;
-use lc_text::Sink;
+use lc_io::{Failed, Sink};
 
 /// A sink that erases the progress line of a count before each write.
 #[derive(Drop)]

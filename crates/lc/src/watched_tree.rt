@@ -1,7 +1,7 @@
 //! The tree in a directory of the host. The methods of this tree count the directories and files that they open, for the progress line.
 
 use crate::progress::{Opened, Progress};
-use lc_census::{Source, StdSource};
+use lc_io::{Source, StdSource};
 use lc_tree::{Entry, Listing, ReadFault, SysTree, Tree};
 use std::alloc::Global;
 use std::marker::Model;

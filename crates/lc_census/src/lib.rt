@@ -22,9 +22,6 @@ mod simd;
 pub use census::Census;
 pub use counting::{CensusFault, MAX_TURNS, count, count_source, count_within};
 pub use laws::{bytes_have_one_cutting, the_limit_is_this_number};
-pub use lc_io::{
-    BUFFER_LEN, Failed, MAX_TRIES, Source, StdSource, WholeFault, new_buffer, read_whole,
-};
 pub use line_count::{Count, Eol};
 pub use scalar::scan_scalar;
 pub use scan::Scan;

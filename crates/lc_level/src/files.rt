@@ -6,7 +6,8 @@ ghost use Rattle.lc_level.specs.FileReads.{IsAnswer, MayCount, MayReadRules};
 use crate::FaultWord;
 use crate::content_fault::ContentFault;
 use crate::level_reader::LevelReader;
-use lc_census::{CensusFault, Count, MAX_TURNS, WholeFault, count_source, read_whole};
+use lc_census::{CensusFault, Count, MAX_TURNS, count_source};
+use lc_io::{WholeFault, read_whole};
 use lc_rules::MAX_RULE_BYTES;
 use lc_tree::{ReadFault, Tree};
 

@@ -3,7 +3,7 @@ ghost use Rattle.std.specs.Prelude.{◌≡◌, vec_len};
 ghost use Rattle.lc_io.specs.Buffers.{buffer_len};
 
 use crate::path_buffer::PathBuffer;
-use lc_census::new_buffer;
+use lc_io::new_buffer;
 use std::alloc::{AllocError, Global};
 
 /// The buffers of a worker, which it uses again for each directory instead of allocating new ones.

@@ -3,8 +3,7 @@ use Rattle.std.proofs.Common.{◌≡◌, ℕ, List, Result, Ok, Err, inr}
 use Rattle.std.specs.Result.{IsErrAnd}
 use Rattle.lc_io.specs.{Reads.Answer, declared.printing.PrintFault.PrintFault}
 use Rattle.lc_level.proofs.PassedOn.{passed_on}
-use Rattle.lc_text.specs.{CheckFaults.print_fault, Input.AnswersInput, declared.check_fault.CheckFault.CheckFault}
-use Rattle.lc_paths.specs.Answers.{AnswersAsMade}
+use Rattle.lc_paths.specs.{CheckFaults.print_fault, Input.AnswersInput, declared.check_fault.CheckFault.CheckFault, Answers.AnswersAsMade}
 use Rattle.lc_io.specs.declared.printing.PrintFault.TheVariants as print
 
 module _ {I O V : Type 0} (may_give : I → ℕ → Answer → I → Type 0) (AnswersOutput : List ℕ → O → Result V PrintFault → O → Type 0)

@@ -1,8 +1,8 @@
 -- The results of a call that reads an input whole, and writes its output while it is made.
 use Rattle.std.specs.Prelude.{◌≡◌, ◌⊎◌, ℕ, List, Result, Ok, Err}
 use Rattle.lc_io.specs.{Reads.Answer, declared.printing.PrintFault.PrintFault}
-use Rattle.lc_text.specs.{Input.AnswersInput, declared.check_fault.CheckFault.CheckFault}
-use Rattle.lc_text.specs.declared.check_fault.CheckFault.TheVariants.{Read, InputTooLong, RulesTooLong, Memory, Write}
+use Rattle.lc_paths.specs.{Input.AnswersInput, declared.check_fault.CheckFault.CheckFault}
+use Rattle.lc_paths.specs.declared.check_fault.CheckFault.TheVariants.{Read, InputTooLong, RulesTooLong, Memory, Write}
 use Rattle.lc_io.specs.declared.whole.WholeFault.TheVariants as whole
 use Rattle.lc_io.specs.declared.printing.PrintFault.TheVariants as print
 

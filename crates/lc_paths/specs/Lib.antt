@@ -1,3 +1,6 @@
+pub mod Styles
+pub mod Input
+pub mod CheckFaults
 pub mod AnswerLines
 pub mod Paths
 pub mod Answers

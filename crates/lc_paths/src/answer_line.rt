@@ -3,9 +3,10 @@
 ghost use Rattle.std.specs.Prelude.{◌≡◌, ◌++◌, OnOk, option_map};
 ghost use Rattle.lc_paths.specs.AnswerLines.{place_text, pattern_text, answer_line};
 ghost use Rattle.lc_text.specs.Names.{line_end, name_model};
-ghost use Rattle.lc_text.specs.Styles.{styled};
+ghost use Rattle.lc_paths.specs.Styles.{styled};
 
-use lc_text::{Name, PathStyle, push_styled};
+use crate::style::{PathStyle, push_styled};
+use lc_text::Name;
 use std::alloc::AllocError;
 use std::io::Write;
 

@@ -10,7 +10,7 @@ ghost use Rattle.lc_paths.specs.Checks.Answers.{AnswersCheck, AnswersExplainedCh
 ghost use Rattle.lc_paths.specs.Checks.CheckText.{text_by};
 ghost use Rattle.lc_paths.specs.Checks.ExplainedText.{explained_text_of};
 ghost use Rattle.lc_paths.specs.Checks.Joined.{rules_part, joined_text};
-ghost use Rattle.lc_text.specs.Styles.{styled};
+ghost use Rattle.lc_paths.specs.Styles.{styled};
 
 mod checker;
 mod explained;
@@ -18,13 +18,15 @@ mod finding;
 mod joined;
 mod text;
 
+use crate::check_fault::CheckFault;
+use crate::input::read_input;
 use crate::paths::Paths;
+use crate::style::PathFormat;
 use explained::{RuleLines, print_explained};
 use joined::split_joined;
-use lc_census::Source;
+use lc_io::{Sink, Source, print};
 use lc_level::RuleText;
 use lc_rules::IgnoreFile;
-use lc_text::{CheckFault, PathFormat, Sink, print, read_input};
 use std::alloc::Global;
 pub use text::check_text;
 
@@ -55,7 +57,7 @@ pub fn check<S: Source, O: Sink>(
 /// highest ignored directory above the path. For `none` and `bad` there is no rule, and the second and third fields are dashes. Name, text
 /// and path are printed in the style of `format`.
 ///
-/// The text is written in blocks while it is made ([`Block`](lc_text::Block)). After an error of the input, nothing was written. After any
+/// The text is written in blocks while it is made ([`Block`](lc_io::Block)). After an error of the input, nothing was written. After any
 /// other error, a prefix of the text was written.
 pub fn check_explained<S: Source, O: Sink>(
     alloc: Global,

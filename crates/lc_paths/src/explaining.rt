@@ -23,17 +23,20 @@ mod printing;
 mod stack_cache;
 mod top_text;
 
+use crate::check_fault::CheckFault;
+use crate::input::read_input;
+use crate::outcome::Outcome;
 use crate::paths::Paths;
 pub use explain_options::ExplainOptions;
 use explainer::Explainer;
-use lc_census::Source;
-use lc_text::{CheckFault, Outcome, PathEnd, PrintFault, Sink, read_input};
+use lc_io::{PrintFault, Sink, Source};
+use lc_text::PathEnd;
 use lc_tree::Tree;
 use printing::print_paths;
 pub use stack_cache::MAX_KEPT;
 use std::alloc::Global;
 
-/// Reads paths to the end of the input, at most [`MAX_INPUT`](lc_text::MAX_INPUT) bytes, and writes which rule of a tree ignores or
+/// Reads paths to the end of the input, at most [`MAX_INPUT`](crate::MAX_INPUT) bytes, and writes which rule of a tree ignores or
 /// includes each path.
 ///
 /// A line of the output has four fields, separated by tabs: a word, the source of the rule, its pattern, and the path as it was read. Paths
@@ -56,7 +59,7 @@ use std::alloc::Global;
 /// The source of a rule is its file and the number of its line, such as `src/.gitignore:3`, or `--exclude:N` for the Nth pattern of the
 /// command line. The pattern is the text of that line.
 ///
-/// The text is written in blocks while it is made ([`Block`](lc_text::Block)). If the input can't be read, nothing was written. After any
+/// The text is written in blocks while it is made ([`Block`](lc_io::Block)). If the input can't be read, nothing was written. After any
 /// other error a prefix of the text was written, perhaps all of it.
 ///
 /// Each directory is listed once, and its rules are read once, in any order of the paths, if the opened directories use at most about

@@ -6,7 +6,8 @@ mod explained;
 mod streams;
 mod texts;
 
-use lc_text::{PathEnd, PathFormat, PathStyle};
+use lc_paths::{PathFormat, PathStyle};
+use lc_text::PathEnd;
 
 /// The format in which each line is a path, and paths are printed for a program.
 const BY_LINES: PathFormat = PathFormat {

@@ -7,3 +7,5 @@ mod checks;
 mod explain;
 #[cfg(test)]
 mod long_lines;
+#[cfg(test)]
+mod styles;

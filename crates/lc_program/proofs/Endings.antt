@@ -1,6 +1,6 @@
 -- How the program ends once a request is answered, or a text is shown.
 use Rattle.std.proofs.Common.{Bool, true, false, List, ℕ, inl, inr}
-use Rattle.lc_text.specs.declared.outcome.Outcome.{Outcome, TheVariants.{Clean, SomeFaults}}
+use Rattle.lc_paths.specs.declared.outcome.Outcome.{Outcome, TheVariants.{Clean, SomeFaults}}
 use Rattle.lc_program.specs.{Program.{Ends, EndsAnswered, Shows, StreamsMay}, Replies.ending_by, Systems.SystemMay}
 use Rattle.lc_program.specs.declared.{ending.Ending.Ending, streams.{Streams.Streams, Terminals.Terminals}}
 use Rattle.lc_program.specs.declared.ending.Ending.TheVariants as end

@@ -1,7 +1,7 @@
 -- Faults that are passed on as replies.
 use Rattle.std.proofs.Common.{◌≡◌, ◌∙◌, ℕ, List, Result, Ok, Err, ap, refl, subst, sym}
 use Rattle.std.specs.{Prelude.{String, string_bytes}, Global.Global, Result.IsErrAnd}
-use Rattle.lc_text.specs.declared.check_fault.CheckFault.{CheckFault}
+use Rattle.lc_paths.specs.declared.check_fault.CheckFault.{CheckFault}
 use Rattle.lc_walk.specs.declared.report.Report.{Report}
 use Rattle.lc_program.specs.{Causes.check_cause, Replies.{IsRunReply, Reply, checked}, Sums.sum_reply, Unnamed.AreUnnamedLines}
 use Rattle.lc_program.specs.declared.{answered.Answered.TheVariants.Counted, cause.Cause.Cause}

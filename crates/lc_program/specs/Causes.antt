@@ -1,6 +1,7 @@
 -- Why the program stops with an error, and the line that it then writes to standard error.
 use Rattle.std.specs.Prelude.{ℕ, List, ◌++◌, Option, codes, decimal, string_bytes}
-use Rattle.lc_text.specs.{Visible.visible_bytes, declared.check_fault.CheckFault.CheckFault}
+use Rattle.lc_text.specs.Visible.{visible_bytes}
+use Rattle.lc_paths.specs.declared.check_fault.CheckFault.{CheckFault}
 use Rattle.lc_walk.specs.declared.walk_fault.WalkFault.{WalkFault}
 use Rattle.lc_io.specs.declared.printing.PrintFault.{PrintFault}
 use Rattle.lc_level.specs.declared.rule_files.rule_text.RulesFileFault.{RulesFileFault}
@@ -12,7 +13,7 @@ use Rattle.lc_program.specs.declared.cause.Cause.TheVariants.{InDirectory, InRep
 use Rattle.lc_program.specs.declared.unread_reason.UnreadReason.{UnreadReason}
 use Rattle.lc_reports.specs.declared.join_fault.JoinFault.{JoinFault}
 use Rattle.lc_walk.specs.declared.walk_fault.WalkFault.TheVariants as walk
-use Rattle.lc_text.specs.declared.check_fault.CheckFault.TheVariants as check
+use Rattle.lc_paths.specs.declared.check_fault.CheckFault.TheVariants as check
 use Rattle.lc_io.specs.declared.printing.PrintFault.TheVariants as print
 use Rattle.lc_level.specs.declared.rule_files.rule_text.RulesFileFault.TheVariants as rules
 use Rattle.lc_reports.specs.declared.join_fault.JoinFault.TheVariants as join

@@ -4,12 +4,12 @@ use Rattle.std.specs.Global.{Global}
 use Rattle.lc_level.specs.FaultLines.{FaultLineModel}
 use Rattle.lc_arguments.specs.declared.request.Request.{Request, TheVariants.{Count, Diff, Sum}}
 use Rattle.lc_walk.specs.declared.report.Report.{Report}
-use Rattle.lc_text.specs.declared.{check_fault.CheckFault.CheckFault, outcome.Outcome.Outcome}
+use Rattle.lc_paths.specs.declared.{check_fault.CheckFault.CheckFault, outcome.Outcome.Outcome}
 use Rattle.lc_io.specs.declared.printing.PrintFault.{PrintFault}
 use Rattle.lc_program.specs.{Causes.{check_cause, print_cause}, Unnamed.AreUnnamedLines}
 use Rattle.lc_program.specs.declared.answered.Answered.{Answered, TheVariants.{Checked, Compared, Counted, Explained, Summed}}
 use Rattle.lc_program.specs.declared.{cause.Cause.Cause, ending.Ending.{Ending, TheVariants.{AnyFile, Done, SomeFaults}}}
-use Rattle.lc_text.specs.declared.outcome.Outcome.TheVariants as outcome
+use Rattle.lc_paths.specs.declared.outcome.Outcome.TheVariants as outcome
 
 abbrev pub Reply : Type 0
 Reply = Result Answered Cause

@@ -4,11 +4,10 @@ use Rattle.lc_io.specs.{declared.{source.Failed.Failed, printing.PrintFault.Prin
 use Rattle.lc_rules.specs.IgnoreRules.{rules_of}
 use Rattle.lc_tree.specs.{Trees.{Listings, Contents}, declared.file_systems.FileSystems.TheVariants.All}
 use Rattle.lc_paths.specs.Explanations.Answers.{AnswersExplain, AnswersLines, MaySay}
-use Rattle.lc_paths.specs.declared.explaining.explain_options.ExplainOptions.{ExplainOptions}
+use Rattle.lc_paths.specs.declared.{explaining.explain_options.ExplainOptions.ExplainOptions, check_fault.CheckFault.CheckFault}
+use Rattle.lc_paths.specs.declared.{outcome.Outcome.Outcome, style.{PathFormat.PathFormat, PathStyle.PathStyle}}
 use Rattle.lc_paths.specs.Checks.{Answers.{AnswersCheck, AnswersExplainedCheck, no_rules}, CheckText.text_by}
-use Rattle.lc_paths.specs.Checks.{Joined.{rules_part, joined_text}, ExplainedText.explained_text_of}
-use Rattle.lc_text.specs.{Styles.styled, declared.{check_fault.CheckFault.CheckFault, outcome.Outcome.Outcome}}
-use Rattle.lc_text.specs.declared.style.{PathFormat.PathFormat, PathStyle.PathStyle}
+use Rattle.lc_paths.specs.{Checks.{Joined.{rules_part, joined_text}, ExplainedText.explained_text_of}, Styles.styled}
 use Rattle.lc_arguments.specs.declared.request.Request.{Request, TheVariants.{CheckJoined, Check, Count, Diff, Explain, Sum}}
 use Rattle.lc_arguments.specs.declared.explain.ExplainRequest.{ExplainRequest}
 use Rattle.lc_program.specs.{Counts.AnswersCount, Differences.AnswersDiff, Replies.{Reply, checked, explained, told}, Filters.Excludes}

@@ -1,7 +1,7 @@
 -- How paths and tables are printed and paths are read, by the command line and by which streams are terminals.
 use Rattle.std.specs.Prelude.{Bool, true, false}
 use Rattle.lc_text.specs.declared.lines.PathEnd.{PathEnd, TheVariants.{LineFeed, Nul}}
-use Rattle.lc_text.specs.declared.style.{PathFormat.PathFormat, PathStyle.{PathStyle, TheVariants.{Escaped, Visible}}}
+use Rattle.lc_paths.specs.declared.style.{PathFormat.PathFormat, PathStyle.{PathStyle, TheVariants.{Escaped, Visible}}}
 use Rattle.lc_sheet.specs.declared.table_options.Format.{Format, TheVariants.{Table, Tsv}}
 
 -- how paths are escaped on an output, by whether it is a terminal

@@ -4,7 +4,7 @@ ghost use Rattle.std.specs.Prelude.{◌≡◌};
 ghost use Rattle.lc_program.specs.Replies.{outcome_by, outcome_of, outcome_of_both};
 
 use crate::comparison::Comparison;
-use lc_text::Outcome;
+use lc_paths::Outcome;
 use lc_walk::{FaultLine, Report};
 
 /// The answer that was written for a request.

@@ -14,8 +14,7 @@ use crate::streams::Terminals;
 use crate::summing::sum;
 use crate::system::System;
 use lc_arguments::Request;
-use lc_census::Source;
-use lc_text::Sink;
+use lc_io::{Sink, Source};
 use std::sync::Wait;
 use std::thread::Threads;
 

@@ -7,9 +7,10 @@ ghost use Rattle.lc_program.specs.Causes.{walk_cause};
 ghost use Rattle.lc_program.specs.declared.cause.Cause.TheVariants.{Memory};
 
 use crate::unread_reason::UnreadReason;
+use lc_io::PrintFault;
 use lc_level::RulesFileFault;
+use lc_paths::CheckFault;
 use lc_reports::JoinFault;
-use lc_text::{CheckFault, PrintFault};
 use lc_walk::WalkFault;
 use std::alloc::{AllocError, AllocFailed, Global};
 use std::borrow::CowStr;

@@ -9,9 +9,9 @@ use crate::cause::Cause;
 use crate::rules_file::rule_text_of_file;
 use crate::system::System;
 use lc_arguments::CheckRequest;
-use lc_census::Source;
-use lc_paths::{check, check_explained, check_joined};
-use lc_text::{PathEnd, PathFormat, PathStyle, Sink};
+use lc_io::{Sink, Source};
+use lc_paths::{PathFormat, PathStyle, check, check_explained, check_joined};
+use lc_text::PathEnd;
 use std::alloc::Global;
 
 /// Returns the byte that ends each path of the input, as `--null` says.

@@ -10,10 +10,9 @@ use crate::checking::path_end;
 use crate::filters::read_filters;
 use crate::system::System;
 use lc_arguments::ExplainRequest;
-use lc_census::Source;
+use lc_io::{Sink, Source};
 use lc_level::Filters;
-use lc_paths::{ExplainOptions, explain, explain_words};
-use lc_text::{PathStyle, Sink};
+use lc_paths::{ExplainOptions, PathStyle, explain, explain_words};
 use lc_tree::{FileSystems, Tree};
 use std::alloc::Global;
 

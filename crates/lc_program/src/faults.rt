@@ -10,8 +10,9 @@ ghost use Rattle.lc_program.specs.Faults.{lines_by, lines_if, number_line, numbe
 use crate::system::System;
 use crate::unlisted::{tell_shortly, uncounted_line};
 use lc_arguments::unslashed;
+use lc_io::{Sink, print};
 use lc_sheet::{Format, Output};
-use lc_text::{Sink, print, push_visible};
+use lc_text::push_visible;
 use lc_walk::FaultLine;
 use std::alloc::{AllocError, Global};
 

@@ -9,7 +9,8 @@ use crate::commands::{is_typed, push_count};
 use crate::repository::Repository;
 use crate::system::System;
 use lc_arguments::Request;
-use lc_text::{Sink, print, push_visible};
+use lc_io::{Sink, print};
+use lc_text::push_visible;
 use std::alloc::{AllocError, Global};
 
 /// Returns the paths of the directories that lie in the repository with the top directory `top`. Each path is relative to `top`.

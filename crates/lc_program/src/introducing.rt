@@ -4,7 +4,7 @@ ghost use Rattle.std.specs.Prelude.{◌≡◌};
 ghost use Rattle.lc_program.specs.Introductions.{Introduces, read_input, reads_paths, reads_reports};
 
 use lc_arguments::{NamedReport, Request};
-use lc_text::{Sink, print};
+use lc_io::{Sink, print};
 
 /// Returns whether a request reads paths from the input.
 fn reads_paths(request: &Request<'_>) -> bool

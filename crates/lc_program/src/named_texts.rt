@@ -3,7 +3,7 @@
 ghost use Rattle.lc_program.specs.NamedTexts.{LoadsText, ReadsNamed, ReadsText};
 
 use crate::system::System;
-use lc_census::{Source, WholeFault, new_buffer, read_whole};
+use lc_io::{Source, WholeFault, new_buffer, read_whole};
 use lc_tree::ReadFault;
 use std::alloc::Global;
 

@@ -11,7 +11,7 @@ ghost use Rattle.lc_program.specs.PathLists.{is_bad_listed};
 use crate::cause::Cause;
 use crate::named_texts::named_text;
 use crate::system::System;
-use lc_census::{Source, WholeFault};
+use lc_io::{Source, WholeFault};
 use lc_text::{PathEnd, is_bad_path, is_top, push_visible, split_path, split_slash, undotted};
 use std::alloc::{AllocError, Global};
 

@@ -11,7 +11,7 @@ use crate::named_texts::named_text;
 use crate::report_lines::{cause_of_refusal, cause_of_text, origin_of};
 use crate::system::System;
 use lc_arguments::NamedReport;
-use lc_census::Source;
+use lc_io::Source;
 use lc_reading::read_reports;
 use lc_reports::{Part, named};
 use lc_walk::Report;

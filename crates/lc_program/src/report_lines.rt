@@ -10,7 +10,7 @@ use crate::cause::Cause;
 use crate::system::System;
 use crate::unlisted::unexplained_line;
 use crate::unread_reason::UnreadReason;
-use lc_census::WholeFault;
+use lc_io::WholeFault;
 use lc_reading::{NoReport, Part, ReadFault};
 use lc_reports::SumFault;
 use lc_sheet::Column;

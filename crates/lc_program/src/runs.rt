@@ -8,8 +8,8 @@ ghost use Rattle.lc_rows.specs.WalkedReports.{ListsFilesFor};
 ghost use Rattle.lc_program.specs.declared.runs.RunFault.TheVariants.{Walk};
 
 use crate::showing::table;
+use lc_io::{PrintFault, Sink};
 use lc_sheet::ReportOptions;
-use lc_text::{PrintFault, Sink};
 use lc_tree::Tree;
 use lc_walk::{Options, Report, WalkFault, walk};
 use std::alloc::Global;

@@ -6,10 +6,10 @@ ghost use Rattle.lc_program.specs.Runs.{AnswersTable};
 ghost use Rattle.lc_rows.specs.WalkedReports.{HasFilesFor};
 
 use lc_formats::text;
+use lc_io::{PrintFault, Sink, print};
 use lc_picture::page;
 use lc_rows::{Shown, keep, sort_files};
 use lc_sheet::{Output, ReportOptions, TableOptions};
-use lc_text::{PrintFault, Sink, print};
 use lc_walk::Report;
 use std::alloc::{AllocError, Global};
 

@@ -7,7 +7,8 @@ ghost use Rattle.lc_program.specs.SideFaults.{TellsSideFaults, fault_line, have_
 use crate::faults::or_here;
 use crate::report_lines::origin_of;
 use crate::unlisted::tell_shortly;
-use lc_text::{Sink, print, push_visible};
+use lc_io::{Sink, print};
+use lc_text::push_visible;
 use lc_walk::FaultLine;
 use std::alloc::{AllocError, Global};
 

@@ -13,7 +13,7 @@ use crate::report_lines::{cause_of_sum, unread_cause};
 use crate::system::System;
 use crate::unread_reason::UnreadReason;
 use lc_arguments::WalkRequest;
-use lc_census::Source;
+use lc_io::Source;
 use lc_reports::{Needs, summed};
 use lc_walk::{Options, Report};
 use std::alloc::{AllocError, Global};

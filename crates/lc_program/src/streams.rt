@@ -3,8 +3,8 @@
 ghost use Rattle.std.specs.Prelude.{◌≡◌};
 ghost use Rattle.lc_program.specs.Styles.{format_for, style_for};
 
+use lc_paths::PathStyle;
 use lc_sheet::Format;
-use lc_text::PathStyle;
 
 /// The streams of the program.
 #[derive(Drop)]

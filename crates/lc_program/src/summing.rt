@@ -15,10 +15,9 @@ use crate::report_lines::cause_of_sum;
 use crate::showing::table;
 use crate::system::System;
 use lc_arguments::{NamedReport, SumRequest};
-use lc_census::Source;
+use lc_io::{Sink, Source};
 use lc_reports::{Needs, Part, summed};
 use lc_sheet::{Format, ReportOptions};
-use lc_text::Sink;
 use lc_walk::Report;
 use std::alloc::{AllocError, Global};
 

@@ -8,7 +8,7 @@ ghost use Rattle.lc_program.specs.declared.unread_reason.UnreadReason.{UnreadRea
 
 use crate::repository::Repository;
 use crate::unread_reason::UnreadReason;
-use lc_census::Source;
+use lc_io::Source;
 use lc_tree::{FileSystems, ReadFault, Tree};
 use std::alloc::{AllocError, Global};
 

@@ -7,7 +7,7 @@ ghost use Rattle.lc_program.specs.declared.ending.Ending.TheVariants as ending;
 
 use crate::cause::Cause;
 use crate::ending::Ending;
-use lc_text::{Sink, print};
+use lc_io::{Sink, print};
 use std::alloc::{AllocError, Global};
 
 /// Writes why the arguments are refused, and returns the ending for refused arguments.

@@ -8,7 +8,8 @@ ghost use Rattle.lc_program.specs.Unlisted.{TellsUnlisted, TellsWhy, short_line}
 use crate::commands::file_count;
 use crate::system::System;
 use crate::unread_reason::UnreadReason;
-use lc_text::{Sink, print, push_visible};
+use lc_io::{Sink, print};
+use lc_text::push_visible;
 use std::alloc::{AllocError, Global};
 
 fn reason_given(why: Option<UnreadReason>) -> &'static str

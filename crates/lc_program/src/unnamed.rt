@@ -6,8 +6,9 @@ ghost use Rattle.lc_program.specs.Program.{TellsUnnamed};
 ghost use Rattle.lc_program.specs.Unnamed.{AreUnnamedLines, unnamed_line, unnamed_lines_of};
 
 use crate::answered::Answered;
+use lc_io::{Sink, print};
 use lc_level::NamedAttributes;
-use lc_text::{Sink, print, push_visible};
+use lc_text::push_visible;
 use std::alloc::{AllocError, Global};
 
 fn push_unnamed(text: &mut String, attribute: &[u8]) -> Result<(), AllocError>

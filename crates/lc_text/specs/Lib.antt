@@ -1,12 +1,9 @@
 pub mod Escape
 pub mod Visible
-pub mod Styles
 pub mod RulePlaces
 pub mod Lines
 pub mod PathLines
 pub mod Quoting
 pub mod DotsBefore
 pub mod ShellWords
-pub mod Input
-pub mod CheckFaults
 pub mod Names

@@ -21,14 +21,6 @@ source_name (InfoExclude depth) = codes ".git/info/exclude"
 source_name (Gitignore depth) = codes ".gitignore"
 source_name CommandLine = codes "--exclude"
 
--- the path of the file that has a rule for a path; its directory is written by `escape`
-abbrev pub rule_file : (List ℕ → List ℕ) → List ℕ → RuleSource → List ℕ
-rule_file escape path source = escape (source_directory path source) ++ source_name source
-
--- the file, a colon and the number of the line
-abbrev pub rule_place : (List ℕ → List ℕ) → List ℕ → RuleSource → ℕ → List ℕ
-rule_place escape path source line = rule_file escape path source ++ codes ":" ++ decimal line
-
 -- the text of the rule on the line with this number
 abbrev pub line_text : List ℕ → ℕ → List ℕ
 line_text bytes number = text_of_line (slice_index_or (rule_lines_of bytes) (number - 1) [])

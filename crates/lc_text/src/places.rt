@@ -1,17 +1,13 @@
-//! The places of rules, as they are printed.
+//! The files that have rules: each ignore file, and the options of the command line.
 
-ghost use Rattle.std.specs.Prelude.{◌≡◌, ◌≤◌, ◌++◌, length, OnOk};
+ghost use Rattle.std.specs.Prelude.{◌≡◌, ◌≤◌, length};
 ghost use Rattle.std.specs.List.{after_first};
 ghost use Rattle.lc_glob.specs.Bytes.{slash};
 ghost use Rattle.lc_glob.specs.Pieces.{is_byte};
-ghost use Rattle.lc_text.specs.RulePlaces.{above, source_directory, source_name, rule_place};
-ghost use Rattle.lc_text.specs.Styles.{styled};
+ghost use Rattle.lc_text.specs.RulePlaces.{above, source_directory, source_name};
 
-use crate::style::{PathStyle, push_styled};
 use lc_glob::cut_at_first;
 use lc_rules::RuleSource;
-use std::alloc::AllocError;
-use std::io::Write;
 
 fn after_slash(path: &[u8]) -> &[u8]
     ensures rest { result.now ≡ after_first (is_byte slash) path.now }
@@ -63,25 +59,4 @@ pub fn source_name(source: RuleSource) -> &'static str
         RuleSource::Gitignore(_) => ".gitignore",
         RuleSource::CommandLine => "--exclude",
     }
-}
-
-/// Appends the place of a rule that matches `path`: the path of the rule's file, escaped in a style, and the number of the rule's line.
-/// Examples of places are `src/.gitignore:3`, `.git/info/exclude:2` and `--exclude-from:7`. The place `--exclude:2` is the second pattern
-/// of the command line.
-///
-/// ```
-/// push_rule_source(&mut text, PathStyle::Escaped, b"src/gen/a.c", RuleSource::Gitignore(1), 3)?; // src/.gitignore:3
-/// ```
-pub fn push_rule_source(
-    text: &mut Vec<u8>,
-    style: PathStyle,
-    path: &[u8],
-    source: RuleSource,
-    line: u32,
-) -> Result<(), AllocError>
-    ensures { OnOk result (text.new.items ≡ text.old.items ++ rule_place (styled style) path.now source line) }
-{
-    push_styled(text, style, source_directory(path, source))?;
-    let name = source_name(source);
-    write!(text, "{name}:{line}").map_err(|_| AllocError)
 }

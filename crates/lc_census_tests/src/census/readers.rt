@@ -1,6 +1,5 @@
-use lc_census::{
-    CensusFault, Count, Eol, MAX_TURNS, Source, StdSource, count, count_source, count_within,
-};
+use lc_census::{CensusFault, Count, Eol, MAX_TURNS, count, count_source, count_within};
+use lc_io::{Source, StdSource};
 use lc_tests::readers::{Bytewise, Counted, Endless, Failing};
 use std::alloc::{AllocError, Global};
 use std::io::{Error, ErrorKind, Read, Result as IoResult};

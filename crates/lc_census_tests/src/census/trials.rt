@@ -1,6 +1,6 @@
 //! Tests of the readers of `lc_tests`, such as `Endless` and `Failing`: what each read of these readers returns.
 
-use lc_census::{Failed, Source};
+use lc_io::{Failed, Source};
 use lc_tests::readers::{Bytewise, Counted, Endless, Failing};
 
 /// The length of a read's buffer, at most 8 bytes, and what the read must return.

@@ -1,7 +1,7 @@
 ghost use Rattle.std.specs.Prelude.{◌≡◌, ◌<◌, length};
 
 use Reader::{AtOnce, ByByte, Fails, NoEnd};
-use lc_census::{Source, WholeFault, new_buffer, read_whole};
+use lc_io::{Source, WholeFault, new_buffer, read_whole};
 use lc_tests::readers::{Bytewise, Endless, Failing};
 use std::alloc::AllocError;
 use std::test::Fail;

@@ -5,12 +5,12 @@ ghost use Rattle.lc_walk.specs.WalkOptions.{AreWithinLimits};
 
 use lc_board::{Locked, Shared, Words};
 use lc_level::{Filters, Job, RuleText, read_rule_text};
+use lc_paths::Outcome;
 use lc_program::{RunFault, run, table};
 use lc_sheet::{Columns, Format, Output, ReportOptions, TableOptions};
 use lc_tests::Sketch;
 use lc_tests::trees::BytewiseTree;
 use lc_tests::writers::{Narrow, WhenFull};
-use lc_text::Outcome;
 use lc_tree::{MemTree, Tree};
 use lc_walk::{FaultLine, Options, ReportLists, Row, WalkFault, walk_on};
 use std::alloc::{AllocError, Global};

@@ -3,9 +3,9 @@
 
 use crate::table::asking::{Case, compare, compare_all};
 use crate::table::runs::{BUILD, FIRST_CASE, IGNORE, KEPT, LOG, RULES, SRC};
+use lc_paths::Outcome;
 use lc_tests::Sketch;
 use lc_tests::trees::{FailingCall, FailingTree};
-use lc_text::Outcome;
 use lc_tree::MemTree;
 use std::process::Abort;
 use std::sync::Wait;

@@ -3,10 +3,10 @@
 ghost use Rattle.std.specs.Prelude.{◌≤◌};
 
 use crate::table::asking::{WITH_FILES, answer_of, new_writer, settled};
+use lc_paths::Outcome;
 use lc_program::RunFault;
 use lc_tests::Sketch;
 use lc_tests::trees::{FailingCall, FailingTree};
-use lc_text::Outcome;
 use lc_tree::MemTree;
 use std::alloc::AllocError;
 use std::process::Abort;

@@ -4,10 +4,10 @@ use crate::table::asking::{
     Asked, Case, HEADER, PLAIN, WITH_FILES, WITH_LEFT_OUT, answer_of, compare_all, compare_by,
     new_writer, settled,
 };
+use lc_paths::Outcome;
 use lc_program::RunFault;
 use lc_tests::Sketch;
 use lc_tests::writers::{Narrow, WRITERS, WhenFull};
-use lc_text::Outcome;
 use lc_tree::MemTree;
 use lc_walk::WalkFault;
 use std::alloc::{AllocError, Global};

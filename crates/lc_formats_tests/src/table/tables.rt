@@ -2,12 +2,12 @@
 
 use crate::table::asking::{HEADER, TSV, showing_all};
 use lc_census::{Count, Eol};
+use lc_io::PrintFault;
 use lc_level::FaultWord;
 use lc_program::{report_text, table};
 use lc_rules::TextState;
 use lc_sheet::{Columns, TableOptions};
 use lc_tests::writers::{Narrow, WRITERS, WhenFull};
-use lc_text::PrintFault;
 use lc_walk::{ClassSums, FaultLine, FileLine, Report, ReportLists, Sums, TallyRow};
 use std::alloc::{AllocError, Global};
 use std::process::Abort;

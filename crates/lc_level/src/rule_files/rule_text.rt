@@ -6,7 +6,7 @@ ghost use Rattle.lc_level.specs.RuleTextReads.{ReadsRuleBytes, ReadsRuleText, fi
 ghost use Rattle.lc_rules.specs.IgnoreRules.{rules_of};
 ghost use Rattle.lc_level.specs.declared.rule_files.rule_text.RulesFileFault.TheVariants.{TooLong, Memory};
 
-use lc_census::{Source, WholeFault, new_buffer, read_whole};
+use lc_io::{Source, WholeFault, new_buffer, read_whole};
 use lc_rules::{IgnoreFile, MAX_RULE_BYTES, RuleFault};
 use std::alloc::{AllocError, Global};
 use std::io;

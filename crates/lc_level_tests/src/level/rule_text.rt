@@ -1,6 +1,6 @@
 //! Rule files that are read a byte at a time, fail, are too long or never end.
 
-use lc_census::Source;
+use lc_io::Source;
 use lc_level::{RulesFileFault, read_rule_text};
 use lc_tests::readers::{Bytewise, Counted, Endless, Failing};
 use std::alloc::AllocError;

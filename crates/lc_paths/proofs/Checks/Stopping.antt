@@ -4,7 +4,7 @@ use Rattle.std.specs.Result.{IsErrAnd}
 use Rattle.lc_io.specs.{declared.{source.Failed.Failed, printing.PrintFault.PrintFault}, Reads.Answer, Writes.AnswersPrint}
 use Rattle.lc_level.proofs.PassedOn.{passed_on}
 use Rattle.lc_rules.specs.{Limits.max_rule_bytes, declared.faults.RuleFault.RuleFault}
-use Rattle.lc_text.specs.{declared.check_fault.CheckFault.CheckFault, Input.AnswersInput, CheckFaults.{rules_fault, print_fault}}
+use Rattle.lc_paths.specs.{declared.check_fault.CheckFault.CheckFault, Input.AnswersInput, CheckFaults.{rules_fault, print_fault}}
 use Rattle.lc_paths.specs.Checks.Answers.{HasRead, AnswersCheck}
 use Rattle.lc_rules.specs.declared.faults.RuleFault.TheVariants as rule
 use Rattle.lc_io.specs.declared.printing.PrintFault.TheVariants as print

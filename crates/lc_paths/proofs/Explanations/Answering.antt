@@ -2,10 +2,10 @@
 use Rattle.std.proofs.Common.{◌≡◌, ℕ, List, Result, subst}
 use Rattle.lc_io.specs.declared.{source.Failed.Failed, printing.PrintFault.PrintFault}
 use Rattle.lc_level.specs.Filters.{FiltersModel}
-use Rattle.lc_text.specs.declared.{outcome.Outcome.Outcome, style.PathStyle.PathStyle}
+use Rattle.lc_paths.specs.declared.{outcome.Outcome.Outcome, style.PathStyle.PathStyle}
+use Rattle.lc_paths.specs.{declared.explaining.explain_options.ExplainOptions.ExplainOptions, Explanations.Answers.{MaySay, AnswersLines}}
+use Rattle.lc_paths.specs.Explanations.{Explained.IsExplained, OpenDirs.MayEnter}
 use Rattle.lc_tree.specs.Trees.{Listings, Contents}
-use Rattle.lc_paths.specs.Explanations.{Answers.{MaySay, AnswersLines}, Explained.IsExplained, OpenDirs.MayEnter}
-use Rattle.lc_paths.specs.declared.explaining.explain_options.ExplainOptions.{ExplainOptions}
 use Rattle.lc_io.specs.declared.printing.PrintFault.TheVariants as print
 
 module _ {O : Type 0} (may_take : O → List ℕ → Result ℕ Failed → O → Type 0) where

@@ -2,7 +2,7 @@
 use Rattle.std.proofs.Common.{◌≡◌, ℕ, Bool, true, false, ◌||◌, cond, if◌then◌else◌, List, [], ◌∷◌, ◌++◌, refl, sym, ◌∙◌, ap, append_assoc}
 use Rattle.std.proofs.{Common.{append-nil, ◌+◌}, lemmas.{Grind.flat_map-append, List.{map-append, Folds.list_any-append}}}
 use Rattle.std.specs.List.{AllByRecursion}
-use Rattle.lc_text.specs.declared.{style.PathStyle.PathStyle, outcome.Outcome.{Outcome, TheVariants.{Clean, SomeFaults}}}
+use Rattle.lc_paths.specs.declared.{style.PathStyle.PathStyle, outcome.Outcome.{Outcome, TheVariants.{Clean, SomeFaults}}}
 use Rattle.lc_paths.specs.Explanations.{Answers.{Explains, ExplainsLine}, Explained.Explanation}
 use Rattle.lc_paths.specs.Explanations.ExplainText.{Told, named_path, names_dir, told_line, told_text, explained_line, is_fault, has_fault}
 

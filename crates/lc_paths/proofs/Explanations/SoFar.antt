@@ -4,9 +4,9 @@ use Rattle.std.specs.Result.{IsErrAnd}
 use Rattle.lc_io.specs.{declared.{source.Failed.Failed, printing.PrintFault.{PrintFault, TheVariants.Memory}}, Blocks.AnswersBlock}
 use Rattle.lc_io.specs.{Blocks.{EmptiesFull, WritesAllBut}, Pieces.AnswersInPieces, Writes.AnswersPrint}
 use Rattle.lc_level.proofs.PassedOn.{passed_on}
-use Rattle.lc_text.specs.declared.{outcome.Outcome.{Outcome, TheVariants.Clean}, style.PathStyle.PathStyle}
-use Rattle.lc_io.proofs.InPieces.{all_but-start, all_but-appended, all_but-printed, all_but-faulted, all_but-prefix, all_but-answered}
+use Rattle.lc_paths.specs.declared.{outcome.Outcome.{Outcome, TheVariants.Clean}, style.PathStyle.PathStyle}
 use Rattle.lc_paths.specs.Explanations.{Answers.{Explains, ExplainsLine, AnswersLines}, Explained.Explanation, ExplainText.explained_line}
+use Rattle.lc_io.proofs.InPieces.{all_but-start, all_but-appended, all_but-printed, all_but-faulted, all_but-prefix, all_but-answered}
 use Rattle.lc_paths.proofs.Explanations.OutputLines.{explained_none, explained_more, lines_done}
 
 module _ {O : Type 0} (may_take : O → List ℕ → Result ℕ Failed → O → Type 0) (style : PathStyle)

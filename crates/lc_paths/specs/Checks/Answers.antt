@@ -2,8 +2,8 @@
 use Rattle.std.specs.Prelude.{◌≡◌, ℕ, ◌<◌, ◌≤◌, List, [], length, Result, Ok, Err}
 use Rattle.lc_io.specs.{declared.source.Failed.Failed, Reads.Answer, Pieces.AnswersInPieces, Writes.{Writes, StopsWriting}}
 use Rattle.lc_rules.specs.Limits.{max_rule_bytes}
-use Rattle.lc_text.specs.{Input.AnswersInput, declared.check_fault.CheckFault.CheckFault}
-use Rattle.lc_text.specs.declared.check_fault.CheckFault.TheVariants.{Read, InputTooLong, RulesTooLong, Memory, Write}
+use Rattle.lc_paths.specs.{Input.AnswersInput, declared.check_fault.CheckFault.CheckFault}
+use Rattle.lc_paths.specs.declared.check_fault.CheckFault.TheVariants.{Read, InputTooLong, RulesTooLong, Memory, Write}
 use Rattle.lc_paths.specs.Answers.{AnswersAsMade}
 use Rattle.lc_io.specs.declared.whole.WholeFault.TheVariants as whole
 

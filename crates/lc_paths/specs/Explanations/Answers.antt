@@ -2,11 +2,13 @@
 use Rattle.std.specs.{Prelude.{◌≡◌, ◌++◌, if◌then◌else◌, ℕ, Bool, cond, List, Result, Ok, Err, map}, List.AllByRecursion}
 use Rattle.lc_io.specs.{Reads.Answer, declared.{source.Failed.Failed, printing.PrintFault.PrintFault}, Pieces.WritesInPieces}
 use Rattle.lc_io.specs.Pieces.{AnswersInPieces}
-use Rattle.lc_text.specs.{Lines.input_paths_of, declared.{check_fault.CheckFault.CheckFault, lines.PathEnd.PathEnd}}
-use Rattle.lc_text.specs.declared.{style.PathStyle.PathStyle, outcome.Outcome.{Outcome, TheVariants.{Clean, SomeFaults}}}
-use Rattle.lc_paths.specs.{Answers.AnswersAsMade, Explanations.Explained.{Explanation, IsExplained}}
+use Rattle.lc_text.specs.{Lines.input_paths_of, declared.lines.PathEnd.PathEnd}
+use Rattle.lc_paths.specs.declared.{check_fault.CheckFault.CheckFault, style.PathStyle.PathStyle}
+use Rattle.lc_paths.specs.declared.outcome.Outcome.{Outcome, TheVariants.{Clean, SomeFaults}}
+use Rattle.lc_paths.specs.{declared.explaining.explain_options.ExplainOptions.ExplainOptions, Answers.AnswersAsMade}
+use Rattle.lc_paths.specs.Explanations.Explained.{Explanation, IsExplained}
 use Rattle.lc_paths.specs.Explanations.ExplainText.{Told, named_path, names_dir, explained_line, told_text, is_fault, has_fault}
-use Rattle.lc_paths.specs.{Explanations.OpenDirs.MayEnter, declared.explaining.explain_options.ExplainOptions.ExplainOptions}
+use Rattle.lc_paths.specs.Explanations.OpenDirs.{MayEnter}
 use Rattle.lc_tree.specs.Trees.{Listings, Contents}
 use Rattle.lc_io.specs.declared.whole.WholeFault.TheVariants as whole
 use Rattle.lc_io.specs.declared.printing.PrintFault.TheVariants as print

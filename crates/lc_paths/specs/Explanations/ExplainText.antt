@@ -3,9 +3,8 @@ use Rattle.std.specs.{Prelude.{ℕ, Bool, true, false, List, [], Option, Some, N
 use Rattle.lc_level.specs.{FaultLines.FaultLineModel, ReasonWords.{reason_word, attribute_of}, FaultWords.fault_word}
 use Rattle.lc_rules.specs.declared.rule_source.RuleSource.{RuleSource}
 use Rattle.lc_text.specs.{Names.NameModel, PathLines.{path_of, is_dir_line, undotted, or_dot}, RulePlaces.{source_directory, source_name}}
-use Rattle.lc_text.specs.{Styles.styled, declared.style.PathStyle.PathStyle}
-use Rattle.lc_paths.specs.{AnswerLines.answer_line, Explanations.Explained.{CitedRule, Explanation, bad, faulted, below, ignored, included}}
-use Rattle.lc_paths.specs.Explanations.Explained.{unruled, left_out}
+use Rattle.lc_paths.specs.{Styles.styled, declared.style.PathStyle.PathStyle, AnswerLines.answer_line, Explanations.Explained.CitedRule}
+use Rattle.lc_paths.specs.Explanations.Explained.{Explanation, bad, faulted, below, ignored, included, unruled, left_out}
 
 -- the path of an input line, and whether it is that of a directory: `./` at the beginning of the line means nothing
 abbrev pub named_path : List ℕ → List ℕ

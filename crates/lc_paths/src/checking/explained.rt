@@ -8,14 +8,16 @@ ghost use Rattle.lc_text.specs.RulePlaces.{line_text};
 ghost use Rattle.lc_paths.specs.Checks.ExplainedText.{rule_line, explained_line};
 ghost use Rattle.lc_paths.specs.Paths.{paths_in};
 ghost use Rattle.lc_io.specs.Pieces.{AnswersInPieces};
-ghost use Rattle.lc_text.specs.Styles.{styled};
+ghost use Rattle.lc_paths.specs.Styles.{styled};
 
 use crate::answer_line::push_answer;
 use crate::checking::checker::Checker;
 use crate::paths::Paths;
+use crate::style::PathStyle;
+use lc_io::{Block, PrintFault, Sink};
 use lc_level::RuleText;
 use lc_rules::{Lines, Rule, text_of_line};
-use lc_text::{Block, Name, PathStyle, PrintFault, Sink, split_slash};
+use lc_text::{Name, split_slash};
 use std::alloc::{AllocError, Global};
 
 /// A file of rules as it is printed: its name, the text that each of its lines is read as, and the style of the output.

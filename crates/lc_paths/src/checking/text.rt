@@ -2,12 +2,13 @@
 
 ghost use Rattle.std.specs.Prelude.{◌≡◌, ◌++◌, OnOk, IfOk};
 ghost use Rattle.lc_paths.specs.Checks.CheckText.{file_verdict, checked_line, text_by};
-ghost use Rattle.lc_text.specs.Styles.{styled};
+ghost use Rattle.lc_paths.specs.Styles.{styled};
 
 use crate::checking::checker::Checker;
 use crate::paths::Paths;
+use crate::style::{PathFormat, PathStyle, push_styled};
 use lc_rules::IgnoreFile;
-use lc_text::{PathFormat, PathStyle, push_styled, split_slash};
+use lc_text::split_slash;
 use std::alloc::{AllocError, Global};
 
 /// Appends the output line for a path. `line` is the path as it was read, perhaps with a slash at its end.

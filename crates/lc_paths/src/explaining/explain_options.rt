@@ -1,7 +1,7 @@
 //! The options of an explanation.
 
+use crate::style::PathStyle;
 use lc_level::Filters;
-use lc_text::PathStyle;
 
 /// The options of an explanation.
 ///

@@ -19,9 +19,10 @@ use crate::explaining::explain_options::ExplainOptions;
 use crate::explaining::finding::{Decision, DirectoryFault, Finding, Found, RulePlace};
 use crate::explaining::open_dir::OpenDir;
 use crate::explaining::stack_cache::{Near, StackCache};
+use crate::style::PathStyle;
 use lc_glob::cut_at_first;
 use lc_level::{Filters, Job, LevelReader, OpenFault, ReaderOptions};
-use lc_text::{PathStyle, is_bad_path, is_top};
+use lc_text::{is_bad_path, is_top};
 use lc_tree::{Kind, Tree};
 use std::alloc::{AllocError, Global};
 

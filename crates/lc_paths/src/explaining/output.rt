@@ -17,11 +17,12 @@ use crate::answer_line::push_answer;
 use crate::explaining::explainer::Explainer;
 use crate::explaining::finding::{DirectoryFault, Finding, Found, RulePlace};
 use crate::explaining::stack_cache::StackCache;
+use crate::outcome::Outcome;
+use crate::style::PathStyle;
+use lc_io::Block;
 use lc_level::{Filters, Reason};
 use lc_rules::{Lines, text_of_line};
-use lc_text::{
-    Block, Name, Outcome, PathStyle, source_directory, source_name, split_slash, undotted,
-};
+use lc_text::{Name, source_directory, source_name, split_slash, undotted};
 use lc_tree::Tree;
 use std::alloc::{AllocError, Global};
 

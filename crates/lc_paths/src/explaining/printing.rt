@@ -8,8 +8,9 @@ ghost use Rattle.lc_paths.specs.Explanations.OpenDirs.{MayEnter};
 use crate::explaining::explainer::Explainer;
 use crate::explaining::output::ExplainOutput;
 use crate::explaining::stack_cache::StackCache;
+use crate::outcome::Outcome;
 use crate::paths::Paths;
-use lc_text::{Outcome, PrintFault, Sink};
+use lc_io::{PrintFault, Sink};
 use lc_tree::Tree;
 use std::alloc::Global;
 

@@ -3,11 +3,10 @@
 
 use crate::checks::BY_LINES;
 use crate::long_lines::{expected, long_pattern, repeated};
-use lc_census::Failed;
+use lc_io::{Failed, Sink};
 use lc_level::read_rule_text;
-use lc_paths::check_explained;
+use lc_paths::{CheckFault, check_explained};
 use lc_tests::writers::{Narrow, WhenFull};
-use lc_text::{CheckFault, Sink};
 use std::alloc::{AllocError, Global};
 use std::process::Abort;
 use std::test::Fail;

@@ -2,8 +2,7 @@
 
 use crate::checks::{BY_LINES, BY_NUL, SHOWN_BY_LINES};
 use lc_level::{RuleText, read_rule_text};
-use lc_paths::check_explained;
-use lc_text::{CheckFault, PathFormat};
+use lc_paths::{CheckFault, PathFormat, check_explained};
 use std::alloc::{AllocError, Global};
 use std::process::Abort;
 use std::test::Fail;

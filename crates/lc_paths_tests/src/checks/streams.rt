@@ -2,13 +2,12 @@
 //! the expected text, and the whole text only if it succeeds.
 
 use crate::checks::BY_LINES;
-use lc_census::Source;
+use lc_io::Source;
 use lc_level::read_rule_text;
-use lc_paths::{check, check_explained, check_joined};
+use lc_paths::{CheckFault, check, check_explained, check_joined};
 use lc_rules::IgnoreFile;
 use lc_tests::readers::{Bytewise, Counted, Endless, Failing};
 use lc_tests::writers::{Narrow, WRITERS, WhenFull};
-use lc_text::CheckFault;
 use std::alloc::{AllocError, Global};
 use std::process::Abort;
 use std::test::Fail;

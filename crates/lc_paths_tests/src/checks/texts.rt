@@ -1,9 +1,8 @@
 //! Tests of the text of a check of given paths by given rules.
 
 use crate::checks::{BY_LINES, BY_NUL, SHOWN_BY_LINES};
-use lc_paths::{check_joined, check_text};
+use lc_paths::{CheckFault, PathFormat, check_joined, check_text};
 use lc_rules::IgnoreFile;
-use lc_text::{CheckFault, PathFormat};
 use std::alloc::{AllocError, Global};
 use std::process::Abort;
 use std::test::Fail;

@@ -1,11 +1,11 @@
 //! Explaining paths of a tree in memory.
 
-use lc_census::Source;
+use lc_io::{PrintFault, Source};
 use lc_level::{Filters, RuleText, read_rule_text};
-use lc_paths::{ExplainOptions, explain, explain_words};
+use lc_paths::{CheckFault, ExplainOptions, Outcome, PathStyle, explain, explain_words};
 use lc_tests::Sketch;
 use lc_tests::writers::{Narrow, WhenFull};
-use lc_text::{CheckFault, Outcome, PathEnd, PathStyle, PrintFault};
+use lc_text::PathEnd;
 use lc_tree::{MemTree, Tree};
 use std::alloc::{AllocError, Global};
 use std::process::Abort;

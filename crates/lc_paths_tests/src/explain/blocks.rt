@@ -3,10 +3,11 @@
 
 use crate::explain::asking::for_a_pipe;
 use crate::long_lines::{LINES, expected, long_pattern, repeated};
+use lc_io::{BLOCK_SIZE, PrintFault};
 use lc_level::Filters;
-use lc_paths::{explain, explain_words};
+use lc_paths::{CheckFault, Outcome, explain, explain_words};
 use lc_tests::writers::{Narrow, WhenFull};
-use lc_text::{BLOCK_SIZE, CheckFault, Outcome, PathEnd, PrintFault};
+use lc_text::PathEnd;
 use lc_tree::{MemTree, Node};
 use std::alloc::{AllocError, Global};
 use std::process::Abort;

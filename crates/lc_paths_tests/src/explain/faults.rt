@@ -2,10 +2,10 @@
 
 use crate::explain::asking::{Case, check, for_a_pipe, plainly};
 use lc_level::Filters;
+use lc_paths::Outcome;
 use lc_tests::Sketch;
 use lc_tests::trees::{FailingCall, FailingTree};
 use lc_tests::writers::{Narrow, WhenFull};
-use lc_text::Outcome;
 use lc_tree::MemTree;
 use std::process::Abort;
 use std::test::Fail;

@@ -2,11 +2,10 @@
 //! listed again, and its rules are not read again.
 
 use crate::explain::asking::plainly;
-use lc_paths::MAX_KEPT;
+use lc_paths::{MAX_KEPT, Outcome};
 use lc_tests::Sketch;
 use lc_tests::trees::{FailingCall, FailingTree};
 use lc_tests::writers::{Narrow, WhenFull};
-use lc_text::Outcome;
 use lc_tree::{MemTree, Node};
 use std::alloc::{AllocError, Global};
 use std::process::Abort;

@@ -2,10 +2,11 @@
 //! text only if it succeeds.
 
 use crate::explain::asking::{explained_words, plainly};
+use lc_io::PrintFault;
+use lc_paths::{CheckFault, Outcome};
 use lc_tests::Sketch;
 use lc_tests::readers::{Bytewise, Endless, Failing};
 use lc_tests::writers::{Narrow, WRITERS, WhenFull};
-use lc_text::{CheckFault, Outcome, PrintFault};
 use lc_tree::MemTree;
 use std::process::Abort;
 use std::test::Fail;

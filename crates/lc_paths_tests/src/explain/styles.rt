@@ -2,8 +2,8 @@
 
 use crate::explain::asking::{Case, check, in_style};
 use lc_level::Filters;
+use lc_paths::{Outcome, PathStyle};
 use lc_tests::Sketch;
-use lc_text::{Outcome, PathStyle};
 use std::process::Abort;
 use std::test::Fail;
 

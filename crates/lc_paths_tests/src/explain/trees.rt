@@ -2,10 +2,10 @@
 
 use crate::explain::asking::{Case, check, explained_words, for_a_pipe, rule_text};
 use lc_level::Filters;
-use lc_paths::explain;
+use lc_paths::{CheckFault, Outcome, explain};
 use lc_tests::Sketch;
 use lc_tests::writers::{Narrow, WhenFull};
-use lc_text::{CheckFault, Outcome, PathEnd};
+use lc_text::PathEnd;
 use lc_tree::{MemTree, OtherKind};
 use std::alloc::AllocError;
 use std::process::Abort;

@@ -1,7 +1,7 @@
 //! Tests of single calls: methods of a `System`, and the functions `misuse` and `give_up`.
 
 use crate::runs::mem_system::MemSystem;
-use lc_census::Source;
+use lc_io::Source;
 use lc_program::{Cause, Repository, System, UnreadReason, give_up, misuse};
 use lc_tests::Sketch;
 use lc_tree::{FileSystems, Node, Tree};

@@ -3,9 +3,10 @@
 use lc_level::Reason;
 use lc_sheet::Columns;
 use lc_tests::{eol_word, push_kind, push_name, text_word};
-use lc_text::{PathStyle, push_rule_source};
+use lc_text::{push_escaped, source_directory, source_name};
 use lc_walk::{FileLine, Report, SkippedLine, Sums, TallyRow};
 use std::alloc::{AllocError, Global};
+use std::io::Write;
 
 fn push_sums(text: &mut String, sums: Sums) -> Result<(), AllocError> {
     let Sums {
@@ -85,7 +86,9 @@ fn push_detail(text: &mut String, entry: &SkippedLine) -> Result<(), AllocError>
     match &entry.reason {
         Reason::Rule { source, line } => {
             let mut place = Vec::new(*entry.path.allocator());
-            push_rule_source(&mut place, PathStyle::Escaped, &entry.path, *source, *line)?;
+            push_escaped(&mut place, source_directory(&entry.path, *source))?;
+            let name = source_name(*source);
+            write!(place, "{name}:{line}").map_err(|_| AllocError)?;
             push_name(text, &place)?;
             text.push_str(" ")
         }

@@ -1,7 +1,7 @@
 //! Blocks of a text that are written as they fill up.
 
+use lc_io::{BLOCK_SIZE, Block, PrintFault};
 use lc_tests::writers::{Narrow, WhenFull};
-use lc_text::{BLOCK_SIZE, Block, PrintFault};
 use std::alloc::{AllocError, Global};
 use std::process::Abort;
 use std::test::Fail;

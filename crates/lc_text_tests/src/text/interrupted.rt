@@ -1,7 +1,6 @@
 //! Writers of `std::io` that a signal interrupts.
 
-use lc_io::MAX_TRIES;
-use lc_text::{PrintFault, StdSink, print};
+use lc_io::{MAX_TRIES, PrintFault, StdSink, print};
 use std::alloc::{AllocError, Global};
 use std::io::{self, ErrorKind, Write};
 use std::test::Fail;

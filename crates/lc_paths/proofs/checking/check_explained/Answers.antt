@@ -1,7 +1,7 @@
 use Rattle.std.proofs.Common.{◌≡◌, ◌∙◌, ℕ, List, Err, ap₂, subst}
 use Rattle.std.specs.List.{flat_map}
-use Rattle.lc_paths.specs.Checks.ExplainedText.{explained_line, explained_text_of}
-use Rattle.lc_text.specs.{Lines.input_paths_of, Styles.styled}
+use Rattle.lc_paths.specs.{Checks.ExplainedText.{explained_line, explained_text_of}, Styles.styled}
+use Rattle.lc_text.specs.Lines.{input_paths_of}
 use Rattle.lc_io.specs.Pieces.{AnswersInPieces}
 use Rattle.lc_paths.proofs.Stopping.{output_stops}
 use Rattle.lc_paths.proofs.checking.check_explained.Goals as goal

@@ -1,7 +1,6 @@
 use Rattle.std.proofs.{Common.{◌≡◌, ◌∙◌, ◌≤◌, ◌<◌, ℕ, List, Result, Ok, Err, length, subst, ap, ap₂, ⊎_elim}, lemmas.Bool.cases_lt}
 use Rattle.lc_rules.specs.{IgnoreRules.rules_of, declared.faults.RuleFault.{RuleFault, TheVariants.TooLong}, Limits.max_rule_bytes}
-use Rattle.lc_paths.specs.Checks.{CheckText.text_by, Joined.{rules_part, paths_part, joined_text}}
-use Rattle.lc_text.specs.Styles.{styled}
+use Rattle.lc_paths.specs.{Checks.{CheckText.text_by, Joined.{rules_part, paths_part, joined_text}}, Styles.styled}
 use Rattle.lc_io.specs.Writes.{Writes, AnswersPrint}
 use Rattle.lc_paths.proofs.Checks.Stopping.{rules_stop, text_stops}
 use Rattle.lc_paths.proofs.checking.check_joined.Goals as goal

@@ -1,9 +1,8 @@
 use Rattle.std.proofs.Common.{◌∙◌, ◌++◌, ℕ, List, Err, subst}
 use Rattle.std.specs.List.{flat_map}
 use Rattle.lc_level.proofs.PassedOn.{passed_on}
-use Rattle.lc_paths.specs.{Checks.ExplainedText.explained_line, Paths.paths_in}
+use Rattle.lc_paths.specs.{Checks.ExplainedText.explained_line, Paths.paths_in, Styles.styled}
 use Rattle.lc_io.specs.Pieces.{AnswersInPieces}
-use Rattle.lc_text.specs.Styles.{styled}
 use Rattle.lc_paths.proofs.Checks.ExplainedLines.{line_more, line_none}
 use Rattle.lc_io.proofs.InPieces.{all_but-appended, all_but-printed, all_but-faulted, all_but-answered}
 use Rattle.lc_paths.proofs.checking.explained.print_explained.Goals as goal

@@ -2,8 +2,7 @@ use Rattle.std.proofs.Common.{◌≡◌, ◌++◌, ℕ, List, length}
 use Rattle.std.specs.List.{flat_map}
 use Rattle.lc_rules.specs.IgnoreRules.{rules_of}
 use Rattle.lc_io.specs.Blocks.{WritesAllBut}
-use Rattle.lc_paths.specs.{Checks.ExplainedText.explained_line, Paths.paths_in}
-use Rattle.lc_text.specs.Styles.{styled}
+use Rattle.lc_paths.specs.{Checks.ExplainedText.explained_line, Paths.paths_in, Styles.styled}
 use Rattle.lc_paths.proofs.checking.explained.print_explained.Given as goal
 
 abbrev pub decreases-lines : goal.decreases-lines

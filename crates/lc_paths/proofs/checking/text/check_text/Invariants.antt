@@ -1,7 +1,6 @@
 use Rattle.std.proofs.Common.{◌≡◌, ◌++◌, length}
 use Rattle.std.specs.List.{flat_map}
-use Rattle.lc_paths.specs.{Checks.CheckText.{file_verdict, checked_line, check_text_of}, Paths.paths_in}
-use Rattle.lc_text.specs.Styles.{styled}
+use Rattle.lc_paths.specs.{Checks.CheckText.{file_verdict, checked_line, check_text_of}, Paths.paths_in, Styles.styled}
 use Rattle.lc_paths.proofs.checking.text.check_text.Given as goal
 
 abbrev pub decreases-lines : goal.decreases-lines

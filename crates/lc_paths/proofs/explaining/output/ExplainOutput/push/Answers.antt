@@ -1,6 +1,6 @@
 use Rattle.std.proofs.Common.{ap, sym, if◌then◌else◌}
-use Rattle.lc_text.specs.declared.outcome.Outcome.TheVariants.{SomeFaults}
-use Rattle.lc_paths.specs.Explanations.{Explained.cited, ExplainText.is_fault, Findings.explanation_of, OpenDirs.stack_to}
+use Rattle.lc_paths.specs.{declared.outcome.Outcome.TheVariants.SomeFaults, Explanations.{Explained.cited, ExplainText.is_fault}}
+use Rattle.lc_paths.specs.Explanations.{Findings.explanation_of, OpenDirs.stack_to}
 use Rattle.lc_paths.proofs.explaining.output.ExplainOutput.push.Goals as goal
 
 pub returns-in-Fault-clause-outcome : goal.returns-in-Fault-clause-outcome

@@ -1,6 +1,6 @@
 //! Reading the input of `lc check` or `lc explain`. The input is read whole, and each of its lines names a path.
 
-ghost use Rattle.lc_text.specs.Input.{ReadsInput};
+ghost use Rattle.lc_paths.specs.Input.{ReadsInput};
 
 use lc_io::{Source, WholeFault, new_buffer, read_whole};
 use std::alloc::Global;

@@ -1,12 +1,10 @@
 //! The styles in which paths are printed: for a program, and for a terminal.
 
 ghost use Rattle.std.specs.Prelude.{◌≡◌, ◌++◌, OnOk};
-ghost use Rattle.lc_text.specs.Styles.{styled, styled_path};
+ghost use Rattle.lc_paths.specs.Styles.{styled};
 ghost use Rattle.lc_text.specs.Visible.{visible_bytes};
 
-use crate::escaping::push_escaped;
-use crate::lines::PathEnd;
-use crate::visible::push_visible;
+use lc_text::{PathEnd, push_escaped, push_visible};
 use std::alloc::AllocError;
 
 /// The style in which the bytes of paths and of patterns are printed.
@@ -45,16 +43,5 @@ pub fn push_styled(text: &mut Vec<u8>, style: PathStyle, bytes: &[u8]) -> Result
     match style {
         PathStyle::Escaped => push_escaped(text, bytes),
         PathStyle::Visible => push_visible_bytes(text, bytes),
-    }
-}
-
-/// Appends a path, escaped as the style requires. The empty path, which is that of a tree's top directory, becomes a dot.
-pub fn push_styled_path(text: &mut Vec<u8>, style: PathStyle, path: &[u8]) -> Result<(), AllocError>
-    ensures { OnOk result (text.new.items ≡ text.old.items ++ styled_path style path.now) }
-{
-    if path.is_empty() {
-        text.extend_from_slice(b".")
-    } else {
-        push_styled(text, style, path)
     }
 }

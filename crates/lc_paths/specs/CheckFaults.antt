@@ -1,7 +1,7 @@
 -- The errors of a check, by the error that stops it.
 use Rattle.lc_io.specs.declared.{whole.WholeFault.WholeFault, printing.PrintFault.PrintFault}
 use Rattle.lc_rules.specs.declared.faults.RuleFault.{RuleFault}
-use Rattle.lc_text.specs.declared.check_fault.CheckFault.{CheckFault, TheVariants.{Read, InputTooLong, RulesTooLong, Memory, Write}}
+use Rattle.lc_paths.specs.declared.check_fault.CheckFault.{CheckFault, TheVariants.{Read, InputTooLong, RulesTooLong, Memory, Write}}
 use Rattle.lc_io.specs.declared.whole.WholeFault.TheVariants as whole
 use Rattle.lc_rules.specs.declared.faults.RuleFault.TheVariants as rule
 use Rattle.lc_io.specs.declared.printing.PrintFault.TheVariants as print

@@ -1,8 +1,8 @@
 //! The errors of checking or explaining paths.
 
 ghost use Rattle.std.specs.Prelude.{◌≡◌};
-ghost use Rattle.lc_text.specs.CheckFaults.{input_fault, rules_fault, print_fault};
-ghost use Rattle.lc_text.specs.declared.check_fault.CheckFault.TheVariants.{Memory};
+ghost use Rattle.lc_paths.specs.CheckFaults.{input_fault, rules_fault, print_fault};
+ghost use Rattle.lc_paths.specs.declared.check_fault.CheckFault.TheVariants.{Memory};
 
 use lc_io::{PrintFault, WholeFault};
 use lc_rules::RuleFault;
