@@ -1,15 +1,16 @@
 //! The key of a row of a table, and the order of keys.
 
-ghost use Rattle.std.specs.Prelude.{◌≡◌, ◌<◌, option_map};
+ghost use Rattle.std.specs.Prelude.{◌≡◌, option_map};
 ghost use Rattle.std.specs.Option.{option_cmp};
 ghost use Rattle.lc_tree.specs.ByteOrder.{bytes_cmp};
-ghost use Rattle.lc_walk.specs.Key.{eol_place, key_cmp, text_place};
+ghost use Rattle.lc_walk.specs.Key.{key_cmp};
 ghost use Rattle.lc_rows.specs.RowKeys.{row_key_cmp};
 ghost use Rattle.lc_rows.specs.TreeRows.{depth_first_cmp, path_cmp};
 
 use crate::depth_first::compare_paths;
 use lc_census::Eol;
 use lc_rules::TextState;
+use lc_walk::{eol_rank, text_rank};
 use std::cmp::Ordering;
 use std::marker::Model;
 
@@ -88,32 +89,5 @@ fn compare_bytes(a: Option<&[u8]>, b: Option<&[u8]>) -> Ordering
         (None, Some(_)) => Ordering::Less,
         (Some(_), None) => Ordering::Greater,
         (Some(a), Some(b)) => a.cmp(&b),
-    }
-}
-
-/// Returns the place of a state of the Git attribute `text` in the order of keys.
-fn text_rank(text: TextState) -> u8
-    ensures { result ≡ text_place text }
-{
-    match text {
-        TextState::Set => 0,
-        TextState::Unset => 1,
-        TextState::Auto => 2,
-        TextState::Other => 3,
-        TextState::Unspecified => 4,
-    }
-}
-
-/// Returns the place of a class of line ends in the order of keys.
-fn eol_rank(eol: Eol) -> u8
-    ensures { result ≡ eol_place eol }
-{
-    match eol {
-        Eol::NoEnd => 0,
-        Eol::Lf => 1,
-        Eol::CrLf => 2,
-        Eol::Cr => 3,
-        Eol::Mixed => 4,
-        Eol::Nul => 5,
     }
 }

@@ -17,9 +17,7 @@ mod sketch_table;
 pub mod trees;
 pub mod writers;
 
-pub use lines::{
-    eol_of_word, eol_word, has_words, push_kind, push_name, push_reason, text_of_word, text_word,
-};
+pub use lines::{eol_of_word, has_words, push_kind, push_name, push_reason, text_of_word};
 pub use request::Asked;
 pub use sketch::tree;
 pub use sketch_table::Sketch;

@@ -19,37 +19,14 @@ const LINE_ENDS: &[Eol] = &[Eol::Lf, Eol::CrLf, Eol::Cr, Eol::Mixed, Eol::Nul];
 pub fn text_of_word(word: &str) -> TextState {
     let mut states = TEXT_STATES
         .iter()
-        .filter(|state| text_word(**state) == word);
+        .filter(|state| state.word() == Some(word));
     states.next().copied().unwrap_or(TextState::Unspecified)
 }
 
 /// Returns the line ends that a word names, such as `crlf`.
 pub fn eol_of_word(word: &str) -> Eol {
-    let mut ends = LINE_ENDS.iter().filter(|eol| eol_word(**eol) == word);
+    let mut ends = LINE_ENDS.iter().filter(|eol| eol.as_str() == word);
     ends.next().copied().unwrap_or(Eol::NoEnd)
-}
-
-/// Returns the word for a state of the attribute `text`.
-pub fn text_word(text: TextState) -> &'static str {
-    match text {
-        TextState::Set => "set",
-        TextState::Unset => "unset",
-        TextState::Auto => "auto",
-        TextState::Other => "other",
-        TextState::Unspecified => "-",
-    }
-}
-
-/// Returns the word for a kind of line ends, such as `crlf`.
-pub fn eol_word(eol: Eol) -> &'static str {
-    match eol {
-        Eol::NoEnd => "none",
-        Eol::Lf => "lf",
-        Eol::CrLf => "crlf",
-        Eol::Cr => "cr",
-        Eol::Mixed => "mixed",
-        Eol::Nul => "nul",
-    }
 }
 
 /// Appends a name or a path to a text. The empty path is written as `.`, and bytes that are not UTF-8 as a list of numbers.

@@ -43,7 +43,10 @@ pub use options::{Options, ReportLists};
 pub use report::{FaultLine, FileLine, Findings, Report, SkippedLine, assemble, sort_lines};
 pub use row::{BrokenRow, Child, FaultedRow, ListedParts, ListedRow, Row};
 pub use served_job::ServedJob;
-pub use tally::{ClassSums, KeyRef, Sums, Tally, TallyRow, added_up, extension, sums_of_rows};
+pub use tally::{
+    ClassSums, KeyRef, Sums, Tally, TallyRow, added_up, eol_rank, extension, sums_of_rows,
+    text_rank,
+};
 pub use walk_fault::WalkFault;
 pub use walking::{walk, walk_first, walk_on};
 pub use worker::{StopReason, Worker, WorkerResult};

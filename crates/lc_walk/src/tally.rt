@@ -23,7 +23,7 @@ mod tally_row;
 
 pub use classes::ClassSums;
 pub use extensions::extension;
-pub use key::KeyRef;
+pub use key::{KeyRef, eol_rank, text_rank};
 use keyed_rows::KeyedRows;
 use lc_census::Count;
 use lc_rules::TextState;

@@ -4,7 +4,7 @@ use lc_level::{
     ChildDirectory, CountedFiles, FaultWord, Filters, Job, LevelReader, OpenFault, Opened,
     ReaderOptions, Scratch, SkippedLine,
 };
-use lc_tests::{Asked, has_words, push_kind, push_name, push_reason, text_word, tree};
+use lc_tests::{Asked, has_words, push_kind, push_name, push_reason, tree};
 use lc_tree::{MemTree, Node};
 use std::alloc::{AllocError, Global};
 use std::process::Abort;
@@ -97,7 +97,7 @@ fn work(
 fn push_counted(text: &mut String, counted: &CountedFiles) -> Result<(), AllocError> {
     for file in &counted.files {
         push_name(text, &file.path)?;
-        let word = text_word(file.text);
+        let word = file.text.word().unwrap_or("-");
         if word != "-" {
             write!(text, " {word}")?;
         }

@@ -2,7 +2,7 @@
 
 use lc_level::Reason;
 use lc_sheet::Columns;
-use lc_tests::{eol_word, push_kind, push_name, text_word};
+use lc_tests::{push_kind, push_name};
 use lc_text::{push_escaped, source_directory, source_name};
 use lc_walk::{FileLine, Report, SkippedLine, Sums, TallyRow};
 use std::alloc::{AllocError, Global};
@@ -27,7 +27,7 @@ fn push_row(text: &mut String, row: &TallyRow) -> Result<(), AllocError> {
         }
         None => text.push_str("-")?,
     }
-    let (state, eol) = (text_word(row.text), eol_word(row.eol));
+    let (state, eol) = (row.text.word().unwrap_or("-"), row.eol.as_str());
     write!(text, " {state} {eol} ")?;
     push_sums(text, row.sums())
 }
@@ -71,7 +71,7 @@ fn push_numbers(text: &mut String, report: &Report) -> Result<(), AllocError> {
 
 fn push_file(text: &mut String, file: &FileLine) -> Result<(), AllocError> {
     let count = &file.count;
-    let (state, eol) = (text_word(file.text), eol_word(count.eol));
+    let (state, eol) = (file.text.word().unwrap_or("-"), count.eol.as_str());
     write!(
         text,
         "file {state} {eol} {} {} {} ",

@@ -27,7 +27,7 @@ impl<'a> Model for KeyRef<'a> {
 }
 
 /// Returns the place of a state of the attribute `text` in the order of keys.
-pub(crate) fn text_rank(text: TextState) -> u8
+pub fn text_rank(text: TextState) -> u8
     ensures value { result ≡ text_place text }
     ensures small { result < 8 }
 {
@@ -41,7 +41,7 @@ pub(crate) fn text_rank(text: TextState) -> u8
 }
 
 /// Returns the place of a class of line ends in the order of keys.
-pub(crate) fn eol_rank(eol: Eol) -> u8
+pub fn eol_rank(eol: Eol) -> u8
     ensures value { result ≡ eol_place eol }
     ensures small { result < 8 }
 {

@@ -1,6 +1,6 @@
 //! Reports as text, in lines such as those of `lc count`.
 
-use lc_tests::{eol_word, push_kind, push_name, push_reason, text_word};
+use lc_tests::{push_kind, push_name, push_reason};
 use lc_walk::{FileLine, Report, TallyRow};
 use std::alloc::{AllocError, Global};
 
@@ -14,14 +14,14 @@ pub(super) fn push_row(text: &mut String, row: &TallyRow) -> Result<(), AllocErr
         }
         None => text.push_str("-")?,
     }
-    let (state, eol) = (text_word(row.text), eol_word(row.eol));
+    let (state, eol) = (row.text.word().unwrap_or("-"), row.eol.as_str());
     write!(text, " {state} {eol} {}", row.files)?;
     write!(text, " {} {} {}\n", row.lines, row.blank, row.bytes)
 }
 
 fn push_file(text: &mut String, file: &FileLine) -> Result<(), AllocError> {
     let count = &file.count;
-    let (state, eol) = (text_word(file.text), eol_word(count.eol));
+    let (state, eol) = (file.text.word().unwrap_or("-"), count.eol.as_str());
     write!(
         text,
         "file {state} {eol} {} {} {} ",
