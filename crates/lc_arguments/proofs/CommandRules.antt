@@ -4,15 +4,17 @@ use Rattle.std.proofs.{Common.{take, get_or, refl, sym, ap, ap₂, subst, arith}
 use Rattle.std.proofs.lemmas.List.{append-nil, get_or-map, length-map, map-append, take_more, Elements.{All-cons, All-nil, filter-append}}
 use Rattle.std.proofs.lemmas.List.Folds.{list_any_at}
 use Rattle.std.proofs.lemmas.Slice.Eq.{bytes_eq-Decides}
-use Rattle.std.specs.{Prelude.{pos, Option, Some, None}, List.{All, filter, list_any, slice_index_or}, Str.bytes_eq}
+use Rattle.std.specs.{Prelude.{codes, pos, Option, Some}, List.{All, filter, list_any, slice_index_or}, Str.bytes_eq}
 use Rattle.clap.specs.{Built.{AddsArg, AddsInTurn, AddsSubcommand, FitsChain, HasDistinctIds}, Lexer.without_minus, Matches.found_of}
 use Rattle.clap.specs.{Matches.one_text, Values.IsSignedIn, declared.builder.{arg.Arg.Arg, command.Command.{Command, TheViews.out-Command}}}
 use Rattle.clap.specs.{declared.builder.value_parser.ValueParser.{ValueParser, TheVariants.Signed}, Simple.{App, app_of, new_rule}}
-use Rattle.clap.specs.{Simple.{with_rule, with_subcommand}, Walk.{Rule, rule_of}}
+use Rattle.clap.specs.{Simple.{with_rule, with_subcommand}, Walk.{Rule, rule_of}, declared.parser.matches.Found.Found}
 use Rattle.lc_arguments.specs.{CommandLine.{app_with, bare_app, option_rule, rules_in, with_rules, with_subcommands}, CountArgs.AreArgsOf}
 use Rattle.lc_arguments.specs.{CountArgs.{AreCommandsOf, IsArgOf, IsBare, IsCommandOf}, Directories.are_distinct, Options.OptionModel}
-use Rattle.lc_arguments.specs.{Options.{is_of, option_model}, ReadNumbers.ReadsWithin, declared.option_row.OptionRow.OptionRow}
-use Rattle.lc_arguments.specs.declared.option_row.Subcommand.{Subcommand}
+use Rattle.lc_arguments.specs.Options.{is_of, max_depth, max_dirs, max_threads, max_top, option_model, options}
+use Rattle.lc_arguments.specs.ReadNumbers.{AreCutsReadWithin, AreReadBy, AreReadWithin, ReadsWithin, parser_named}
+use Rattle.lc_arguments.specs.declared.option_row.OptionRow.{OptionRow}
+use Rattle.lc_arguments.specs.declared.option_row.Subcommand.{Subcommand, TheVariants.{Count, Explain, Check, Sum, Diff}}
 use Rattle.lc_arguments.proofs.ReadValues.{read_in_chain}
 
 -- the rules of one more row
@@ -174,11 +176,6 @@ seen_with name rules c has =
     let turned = rules_in_turn has.bare c has.args has.added has.fits (bare_app name) has.is_bare.0.0 in
     (turned.0 ∙ ap (with_rules (bare_app name)) has.are, turned.1 has.is_bare.0.1)
 
--- the parser of the first argument with this name
-abbrev pub parser_named : List ℕ → List Rule → Option (Option ValueParser)
-parser_named id [] = None
-parser_named id (r ∷ rs) = cond (bytes_eq r.id id) (Some r.parser) (parser_named id rs)
-
 -- an argument with this name and this parser
 record Named (id : List ℕ) (parser : Option ValueParser) (rules : List Rule) : Type 0 where
   place : ℕ
@@ -231,3 +228,32 @@ pub reads_number : (name : List ℕ) (rules : List Rule) (c : Command) → HasRu
 reads_number name rules c has apart id most found =
     let at = found_named id (Some (Signed (pos 1) (pos most))) rules found in
     reads_at name rules c has apart at.place (new_rule id) at.within id most (at.named (new_rule id)) (at.parsed (new_rule id))
+
+-- the arguments of a command have names of their own
+pub apart : (command : Subcommand) → are_distinct (map (λ (r : Rule). r.id) (rules_in command options)) ≡ true
+apart Count = refl
+apart Explain = refl
+apart Check = refl
+apart Sum = refl
+apart Diff = refl
+
+module _ (rules : List Rule) (found : Found) (read : AreReadBy rules found) where
+  -- a number of the name has a limit by the rules
+  abbrev pub IsLimit : List ℕ → ℕ → Type 0
+  IsLimit id most = parser_named id rules ≡ Some (Some (Signed (pos 1) (pos most)))
+
+  -- the numbers of a table are within their limits
+  pub cuts_within : IsLimit (codes "depth") max_depth → IsLimit (codes "top") max_top → AreCutsReadWithin found
+  cuts_within depth top = record {
+    depth = read (codes "depth") max_depth depth;
+    top = read (codes "top") max_top top;
+  }
+
+  -- and so are those of a walk
+  pub numbers_within : IsLimit (codes "threads") max_threads → IsLimit (codes "max-dirs") max_dirs → IsLimit (codes "depth") max_depth
+      → IsLimit (codes "top") max_top → AreReadWithin found
+  numbers_within threads dirs depth top = record {
+    threads = read (codes "threads") max_threads threads;
+    max_dirs = read (codes "max-dirs") max_dirs dirs;
+    cuts = cuts_within depth top;
+  }

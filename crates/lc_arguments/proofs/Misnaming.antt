@@ -2,14 +2,12 @@
 use Rattle.std.proofs.Common.{◌≡◌, ◌∙◌, ◌<◌, ◌&&◌, ℕ, zero, suc, Bool, true, false, not, List, [], ◌∷◌, length, map, refl, ap, inl, inr}
 use Rattle.std.proofs.{Common.{sym, subst, Result, Err, Option, arith}, Math.Bool.and-false, lemmas.Result.err_from_is_err_and}
 use Rattle.std.specs.{Borrow.Bor, List.{list_all, slice_index_or}, Result.IsErrAnd, Prelude.{Some, codes, option_map, unwrap_or}}
-use Rattle.clap.specs.{Faults.fault_of, Simple.{App, matches_of}, Walk.Row}
-use Rattle.lc_arguments.specs.{CommandLine.{check_app, count_app}, Explained.{AnswersCountIn, AnswersCountWords, AnswersExplainWords}}
-use Rattle.lc_arguments.specs.Explained.{AnswersSumIn, AnswersSumWords, AnswersTable, IsRefusal, IsRefusedFor, IsUnread, AnswersDiffIn}
-use Rattle.lc_arguments.specs.{Explained.{AnswersDiffWords, AnswersWalkIn}, Repeated.is_allowed, Words.{AskNothing, AsksNoCount, AsksNoSum}}
-use Rattle.lc_arguments.specs.Words.{IsNoRequestBy, MayRefuse, MayShow, count_words, faults_in, other_faults_in, AsksNoDiff, AsksNoWalk}
-use Rattle.lc_arguments.specs.{ReadNumbers.{AreCutsIn, AreNumbersIn}, declared.count.CountRequest.CountRequest}
-use Rattle.lc_arguments.specs.declared.{numbers.{Cuts.Cuts, Numbers.Numbers}, repeated.Repeated.Repeated, diff.DiffRequest.DiffRequest}
-use Rattle.lc_arguments.specs.declared.{sum.SumRequest.SumRequest, walk_request.WalkRequest.WalkRequest, table.TableRequest.TableRequest}
+use Rattle.clap.specs.{Faults.fault_of, Simple.{App, matches_of}, Walk.{Row, rows_of}, declared.parser.matches.Found.Found}
+use Rattle.lc_arguments.specs.{CommandLine.{check_app, command_app, count_app, rules_in}, Options.options, ReadNumbers.AreReadBy}
+use Rattle.lc_arguments.specs.Explained.{AnswersCountWords, AnswersDiffWords, AnswersExplainWords, AnswersOr, AnswersSumWords}
+use Rattle.lc_arguments.specs.{Explained.{AnswersTable, IsParsedAs, IsRefusal, IsRefusedFor, IsUnread}, Repeated.is_allowed}
+use Rattle.lc_arguments.specs.Words.{AskNothing, IsNoRequestBy, MayRefuse, MayShow, count_words, faults_in, other_faults_in}
+use Rattle.lc_arguments.specs.declared.{option_row.Subcommand.Subcommand, repeated.Repeated.Repeated, table.TableRequest.TableRequest}
 use Rattle.lc_arguments.specs.declared.request.ParseExit.{ParseExit, TheVariants.{Shown, Refused, Memory}}
 
 -- where nothing wrong was found, all is right
@@ -56,39 +54,12 @@ refused_with No More (Shown text) follows bad = bad
 refused_with No More (Refused text) follows bad = follows bad
 refused_with No More Memory follows bad = tt
 
--- what is passed on refuses the count
-pub no_count_in : (rows : List Row) (numbers : Numbers) (answer : Result CountRequest ParseExit) (why : ParseExit) (No : Type 0)
-    → (No → AreNumbersIn rows numbers → AsksNoCount rows) → IsErrAnd answer (λ e. e ≡ why) → IsRefusedFor No why
-    → AnswersCountIn rows numbers answer
-no_count_in rows numbers answer why No follows passed refused =
+-- what is passed on is refused for what follows
+pub passed_on : {A : Type 0} (Is : A → Type 0) (No More : Type 0) (answer : Result A ParseExit) (why : ParseExit) → (No → More)
+    → IsErrAnd answer (λ e. e ≡ why) → IsRefusedFor No why → AnswersOr Is More answer
+passed_on Is No More answer why follows passed refused =
     let error = err_from_is_err_and answer passed in
-    subst (AnswersCountIn rows numbers) (sym (error.1 ∙ ap Err error.2))
-    (refused_with No (AreNumbersIn rows numbers → AsksNoCount rows) why follows refused)
-
--- and the difference
-pub no_diff_in : (rows : List Row) (numbers : Numbers) (answer : Result DiffRequest ParseExit) (why : ParseExit) (No : Type 0)
-    → (No → AreNumbersIn rows numbers → AsksNoDiff rows) → IsErrAnd answer (λ e. e ≡ why) → IsRefusedFor No why
-    → AnswersDiffIn rows numbers answer
-no_diff_in rows numbers answer why No follows passed refused =
-    let error = err_from_is_err_and answer passed in
-    subst (AnswersDiffIn rows numbers) (sym (error.1 ∙ ap Err error.2))
-    (refused_with No (AreNumbersIn rows numbers → AsksNoDiff rows) why follows refused)
-
--- and what is passed on by both
-pub no_walk_in : (rows : List Row) (numbers : Numbers) (answer : Result WalkRequest ParseExit) (why : ParseExit) (No : Type 0)
-    → (No → AsksNoWalk rows) → IsErrAnd answer (λ e. e ≡ why) → IsRefusedFor No why → AnswersWalkIn rows numbers answer
-no_walk_in rows numbers answer why No follows passed refused =
-    let error = err_from_is_err_and answer passed in
-    subst (AnswersWalkIn rows numbers) (sym (error.1 ∙ ap Err error.2)) (refused_with No (AsksNoWalk rows) why follows refused)
-
--- and the sum
-pub no_sum_in : (rows : List Row) (cuts : Cuts) (answer : Result SumRequest ParseExit) (why : ParseExit) (No : Type 0)
-    → (No → AreCutsIn rows cuts → AsksNoSum rows) → IsErrAnd answer (λ e. e ≡ why) → IsRefusedFor No why
-    → AnswersSumIn rows cuts answer
-no_sum_in rows cuts answer why No follows passed refused =
-    let error = err_from_is_err_and answer passed in
-    subst (AnswersSumIn rows cuts) (sym (error.1 ∙ ap Err error.2))
-    (refused_with No (AreCutsIn rows cuts → AsksNoSum rows) why follows refused)
+    subst (AnswersOr Is More) (sym (error.1 ∙ ap Err error.2)) (refused_with No More why follows refused)
 
 -- words of a command that clap answers
 pub unread_by : (app : App) (No : List Row → Type 0) (words : List (List ℕ)) (why : ParseExit)
@@ -103,6 +74,34 @@ pub unread_for : (app : App) (No : List Row → Type 0) (words : List (List ℕ)
 unread_for app No words (Shown text) fine bad = absurd bad
 unread_for app No words (Refused text) fine bad = inr (fine, bad)
 unread_for app No words Memory fine bad = tt
+
+module _ (command : Subcommand) (words : List (List ℕ)) (found : Found) (parsed : IsParsedAs command words found) where
+  -- values that clap found are refused
+  pub refused_in : (No : List Row → Type 0) (why : ParseExit)
+      → IsRefusedFor (AreReadBy (rules_in command options) found → No (rows_of found)) why → IsUnread (command_app command) No words why
+  refused_in No why refused =
+      unread_for (command_app command) No words why parsed.faults
+      (subst (λ (rows : List Row). IsRefusedFor (No rows) why) parsed.rows
+      (refused_with _ (No (rows_of found)) why (λ asks. asks parsed.numbers) refused))
+
+  module _ {A : Type 0} (Is : List Row → A → Type 0) (fits : A → Bool) (request : A)
+      (is : AreReadBy (rules_in command options) found → Is (rows_of found) request) where
+    is_of_words : Is (matches_of (command_app command) words) request
+    is_of_words = subst (λ (rows : List Row). Is rows request) parsed.rows (is parsed.numbers)
+
+    -- they make a request whose options fit together
+    pub fit_in : false ≡ not (fits request)
+        → (fault_of (command_app command) words ≡ []) × (Is (matches_of (command_app command) words) request × (fits request ≡ true))
+    fit_in none = (parsed.faults, (is_of_words, none_wrong (fits request) none))
+
+    -- or one whose options do not
+    pub unfit_in : (No : List Row → Type 0) (why : ParseExit) → IsRefusal why → true ≡ not (fits request)
+        → ((a : A) × Is (matches_of (command_app command) words) a × (fits a ≡ false) → No (matches_of (command_app command) words))
+        → IsUnread (command_app command) No words why
+    unfit_in No why refusal some follows =
+        unread_for (command_app command) No words why parsed.faults
+        (refused_for (No (matches_of (command_app command) words)) why refusal
+        (follows (request, is_of_words, one_wrong (fits request) some)))
 
 -- words of a count fail as its words do
 pub faults_of_count : (words more : List (List ℕ)) → count_words words ≡ Some more → faults_in words ≡ fault_of count_app more

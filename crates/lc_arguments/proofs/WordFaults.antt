@@ -7,60 +7,29 @@ use Rattle.clap.specs.{Simple.{is_simple, matches_of}, Matches.{found_of, first_
 use Rattle.clap.specs.{Walk.{Row, Text, all_of, first_of, one_of, rows_of}, declared.{builder.command.Command.Command, error.Error.Error}}
 use Rattle.clap.specs.declared.parser.matches.{ArgMatches.ArgMatches, Found.Found}
 use Rattle.clap.proofs.{WalkLemmas.{first_value-rows, one_text-rows, raw_values-rows}, OnLiterals.clap_on_literals}
-use Rattle.lc_arguments.specs.{CommandLine.{count_app, check_app, diff_app, explain_app, lc_app, sum_app}, Explained.Explains, Words.IsFlag}
+use Rattle.lc_arguments.specs.{CommandLine.{command_app, lc_app}, Explained.Explains, Words.IsFlag}
+use Rattle.lc_arguments.specs.declared.option_row.Subcommand.{Subcommand, TheVariants.{Count, Explain, Check, Sum, Diff}}
 use Rattle.lc_arguments.specs.{Words.{IsText, IsNoRequestBy, texts_read}, ReadNumbers.{IsNumber, number_if_given}}
 use Rattle.lc_arguments.specs.declared.request.ParseExit.{ParseExit, TheVariants.{Shown, Refused, Memory}}
 use Rattle.clap.specs.declared.error.kind.ErrorKind.TheVariants as kind
 
--- the command count is of the simple kind, of which clap says all
-pub count_is_simple : is_simple count_app ≡ true
+-- each command is of the simple kind, of which clap says all
+pub command_is_simple : (command : Subcommand) → is_simple (command_app command) ≡ true
 unfolding clap_on_literals
-count_is_simple = refl
+command_is_simple Count = refl
+command_is_simple Explain = refl
+command_is_simple Check = refl
+command_is_simple Sum = refl
+command_is_simple Diff = refl
 
 -- and asks for nothing that clap leaves open
-pub count_is_free : is_simple_and_free count_app ≡ true
+pub command_is_free : (command : Subcommand) → is_simple_and_free (command_app command) ≡ true
 unfolding clap_on_literals
-count_is_free = refl
-
--- so is check
-pub check_is_simple : is_simple check_app ≡ true
-unfolding clap_on_literals
-check_is_simple = refl
-
--- and it asks for nothing more
-pub check_is_free : is_simple_and_free check_app ≡ true
-unfolding clap_on_literals
-check_is_free = refl
-
--- so is explain
-pub explain_is_simple : is_simple explain_app ≡ true
-unfolding clap_on_literals
-explain_is_simple = refl
-
--- and it asks for nothing more
-pub explain_is_free : is_simple_and_free explain_app ≡ true
-unfolding clap_on_literals
-explain_is_free = refl
-
--- so is sum
-pub sum_is_simple : is_simple sum_app ≡ true
-unfolding clap_on_literals
-sum_is_simple = refl
-
--- and it asks for nothing more
-pub sum_is_free : is_simple_and_free sum_app ≡ true
-unfolding clap_on_literals
-sum_is_free = refl
-
--- so is diff
-pub diff_is_simple : is_simple diff_app ≡ true
-unfolding clap_on_literals
-diff_is_simple = refl
-
--- and it asks for nothing more
-pub diff_is_free : is_simple_and_free diff_app ≡ true
-unfolding clap_on_literals
-diff_is_free = refl
+command_is_free Count = refl
+command_is_free Explain = refl
+command_is_free Check = refl
+command_is_free Sum = refl
+command_is_free Diff = refl
 
 -- nor does lc
 pub lc_is_free : is_simple_and_free lc_app ≡ true

@@ -43,21 +43,6 @@ rules_in command all = map option_rule (filter (λ o. is_of command o.of) all)
 abbrev pub bare_app : List ℕ → App
 bare_app name = on_top (λ (s : Shape). record s { no_binary_name = true }) (new_app name)
 
-abbrev pub count_rules : List Rule
-count_rules = rules_in Count options
-
-abbrev pub check_rules : List Rule
-check_rules = rules_in Check options
-
-abbrev pub explain_rules : List Rule
-explain_rules = rules_in Explain options
-
-abbrev pub sum_rules : List Rule
-sum_rules = rules_in Sum options
-
-abbrev pub diff_rules : List Rule
-diff_rules = rules_in Diff options
-
 -- a command with each of these rules added, in their order
 abbrev pub with_rules : App → List Rule → App
 with_rules a [] = a
@@ -67,20 +52,32 @@ with_rules a (r ∷ rs) = with_rules (with_rule a r) rs
 abbrev pub app_with : List ℕ → List Rule → App
 app_with name rules = with_rules (bare_app name) rules
 
+-- the name of a command
+abbrev pub command_name : Subcommand → List ℕ
+command_name Count = codes "count"
+command_name Explain = codes "explain"
+command_name Check = codes "check"
+command_name Sum = codes "sum"
+command_name Diff = codes "diff"
+
+-- a command with its arguments
+abbrev pub command_app : Subcommand → App
+command_app command = app_with (command_name command) (rules_in command options)
+
 abbrev pub count_app : App
-count_app = app_with (codes "count") count_rules
+count_app = command_app Count
 
 abbrev pub check_app : App
-check_app = app_with (codes "check") check_rules
+check_app = command_app Check
 
 abbrev pub explain_app : App
-explain_app = app_with (codes "explain") explain_rules
+explain_app = command_app Explain
 
 abbrev pub sum_app : App
-sum_app = app_with (codes "sum") sum_rules
+sum_app = command_app Sum
 
 abbrev pub diff_app : App
-diff_app = app_with (codes "diff") diff_rules
+diff_app = command_app Diff
 
 -- the program without commands and arguments, for words that name no command
 abbrev pub bare_lc_app : App

@@ -1,9 +1,10 @@
 -- Arguments of a command, as they are made.
 use Rattle.std.specs.{Prelude.{◌≡◌, ℕ, Bool, false, not, ◌||◌, List, [], ◌∷◌, codes}, Str.bytes_eq}
-use Rattle.clap.specs.{Built.FitsChain, Facts.{args_of, groups_of}, Simple.{App, app_of}, Walk.{Rule, rule_of}}
-use Rattle.clap.specs.declared.builder.{arg.Arg.Arg, command.Command.{Command, TheViews.out-Command}}
-use Rattle.lc_arguments.specs.{CommandLine.{bare_app, count_app, diff_app, sum_app}, ReadNumbers.ReadsCountWithinLimits}
-use Rattle.lc_arguments.specs.ReadNumbers.{ReadsCutsWithinLimits}
+use Rattle.clap.specs.{Built.{FitsChain, IsParsedFrom}, Facts.{args_of, groups_of}, Matches.found_of, Simple.{App, app_of}, Walk.Rule}
+use Rattle.clap.specs.{Walk.rule_of, declared.builder.{arg.Arg.Arg, command.Command.{Command, TheViews.out-Command}}}
+use Rattle.clap.specs.declared.parser.matches.ArgMatches.{ArgMatches}
+use Rattle.lc_arguments.specs.{CommandLine.{bare_app, command_app, rules_in}, Options.options, ReadNumbers.AreReadBy}
+use Rattle.lc_arguments.specs.declared.option_row.Subcommand.{Subcommand}
 
 -- a name that is not empty, and is not `help` or `version`, which each command has
 abbrev pub is_own_name : List ℕ → Bool
@@ -35,11 +36,8 @@ AreCommandsOf (app ∷ apps) [] = ⊥
 abbrev pub IsBare : List ℕ → Command → Type 0
 IsBare name c = IsCommandOf (bare_app name) c × (args_of c ≡ []) × (groups_of c ≡ [])
 
-abbrev pub IsCountCommand : Command → Type 0
-IsCountCommand c = IsCommandOf count_app c × ReadsCountWithinLimits c
-
-abbrev pub IsSumCommand : Command → Type 0
-IsSumCommand c = IsCommandOf sum_app c × ReadsCutsWithinLimits c
-
-abbrev pub IsDiffCommand : Command → Type 0
-IsDiffCommand c = IsCommandOf diff_app c × ReadsCountWithinLimits c
+-- clap reads the command with its arguments, and reads numbers that are within their limits
+abbrev pub IsSubcommand : Subcommand → Command → Type 0
+IsSubcommand command c =
+    IsCommandOf (command_app command) c
+    × ((m : ArgMatches) → IsParsedFrom c m → AreReadBy (rules_in command options) (found_of m))

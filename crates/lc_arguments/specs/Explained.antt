@@ -2,21 +2,21 @@
 use Rattle.std.specs.{Prelude.{◌≡◌, ◌≢◌, ◌⊎◌, ℕ, true, false, List, [], map, codes, Result, Ok, Err, Option, option_map}, Global.Vec}
 use Rattle.std.specs.{List.list_any, Borrow.Bor}
 use Rattle.clap.specs.{Faults.fault_of, Simple.{App, matches_of}, Values.kind_of, declared.error.Error.Error}
-use Rattle.clap.specs.{declared.error.kind.ErrorKind.TheVariants.OutOfMemory, Walk.Row}
-use Rattle.lc_arguments.specs.{CommandLine.{count_app, check_app, diff_app, explain_app, lc_app, sum_app}, Words.{IsText, IsNoRequestBy}}
-use Rattle.lc_arguments.specs.Words.{IsCheckOf, IsCountOf, IsExplainOf, IsSumOf, MayRefuse, MayShow, AsksNoCount, AsksNoSum, AsksNoTable}
-use Rattle.lc_arguments.specs.Words.{AreFiltersOf, IsFitCountOf, IsFitSumOf, AreConditionsOf, IsWholeTableIn, Misvalue, directories_read}
-use Rattle.lc_arguments.specs.Words.{is_bad_part, part_of, reports_read, texts_read, values_read, AsksNoDiff, AsksNoWalk, IsDiffOf}
-use Rattle.lc_arguments.specs.{Words.{IsFitDiffOf, IsWalkOf}, ReadNumbers.{AreCutsIn, AreNumbersIn}, Directories.{are_distinct, unslashed}}
-use Rattle.lc_arguments.specs.{Repeated.are_allowed, Reports.{name_reports, named_of, report_model}, TableWords.{AreColumnsBy, IsTableBy}}
-use Rattle.lc_arguments.specs.{TableWords.{order_word, output_word}, declared.numbers.{Cuts.Cuts, Numbers.Numbers}}
+use Rattle.clap.specs.{declared.{error.kind.ErrorKind.TheVariants.OutOfMemory, parser.matches.Found.Found}, Walk.{Row, rows_of}}
+use Rattle.lc_arguments.specs.CommandLine.{check_app, command_app, count_app, diff_app, explain_app, lc_app, rules_in, sum_app}
+use Rattle.lc_arguments.specs.Words.{IsText, IsNoRequestBy, IsCheckOf, IsExplainOf, MayRefuse, MayShow, AsksNoCount, AsksNoSum}
+use Rattle.lc_arguments.specs.Words.{AsksNoTable, AreFiltersOf, IsFitCountOf, IsFitSumOf, AreConditionsOf, IsWholeTableIn, Misvalue}
+use Rattle.lc_arguments.specs.Words.{directories_read, is_bad_part, part_of, reports_read, texts_read, values_read, AsksNoDiff}
+use Rattle.lc_arguments.specs.{Words.{AsksNoWalk, IsFitDiffOf, IsWalkOf}, ReadNumbers.{AreCutsIn, AreNumbersIn, AreReadBy}}
+use Rattle.lc_arguments.specs.{Directories.{are_distinct, unslashed}, Repeated.are_allowed, Reports.{name_reports, named_of, report_model}}
+use Rattle.lc_arguments.specs.{TableWords.{AreColumnsBy, IsTableBy, order_word, output_word}, declared.numbers.{Cuts.Cuts, Numbers.Numbers}}
 use Rattle.lc_arguments.specs.declared.{repeated.Repeated.Repeated, table.TableRequest.TableRequest}
 use Rattle.lc_arguments.specs.declared.request.ParseExit.{ParseExit, TheVariants.{Shown, Refused, Memory}}
 use Rattle.lc_arguments.specs.declared.request.Request.{Request, TheVariants.CheckJoined}
 use Rattle.lc_arguments.specs.declared.{check.CheckRequest.CheckRequest, count.CountRequest.CountRequest}
 use Rattle.lc_arguments.specs.declared.{filter_request.FilterRequest.FilterRequest, explain.ExplainRequest.ExplainRequest}
 use Rattle.lc_arguments.specs.declared.{reports.NamedReport.NamedReport, sum.SumRequest.SumRequest, diff.DiffRequest.DiffRequest}
-use Rattle.lc_arguments.specs.declared.walk_request.WalkRequest.{WalkRequest}
+use Rattle.lc_arguments.specs.{declared.{option_row.Subcommand.Subcommand, walk_request.WalkRequest.WalkRequest}, Options.options}
 use Rattle.lc_sheet.specs.{Conditions.ConditionModel, declared.table_options.{Columns.Columns, Order.Order, Output.Output}}
 
 -- what an error of clap becomes: a text of help or of the version is shown; any other error refuses the words, unless memory runs out
@@ -51,6 +51,18 @@ abbrev pub AnswersCommand : {A : Type 0} → App → (List Row → A → Type 0)
     → Result A ParseExit → Type 0
 AnswersCommand {A} app Is No words (Ok a) = (fault_of app words ≡ []) × Is (matches_of app words) a
 AnswersCommand {A} app Is No words (Err why) = IsUnread app No words why
+
+-- clap finds no fault in the words after the name of a command, and found this in them; what it read of numbers is within their limits
+pub record IsParsedAs (command : Subcommand) (words : List (List ℕ)) (found : Found) : Type 0 where
+  pub faults : fault_of (command_app command) words ≡ []
+  pub rows : rows_of found ≡ matches_of (command_app command) words
+  pub numbers : AreReadBy (rules_in command options) found
+
+-- the request of a command that clap found, or the values that it found request nothing
+abbrev pub AnswersIn : {A : Type 0} → Subcommand → (List Row → A → Type 0) → (List Row → Type 0) → Found → Result A ParseExit → Type 0
+AnswersIn {A} command Is No found =
+    AnswersOr (λ (a : A). AreReadBy (rules_in command options) found → Is (rows_of found) a)
+    (AreReadBy (rules_in command options) found → No (rows_of found))
 
 -- the results of reading the words after `count`, `explain`, `sum` and `diff`
 abbrev pub AnswersCountWords : List (List ℕ) → Result CountRequest ParseExit → Type 0
@@ -144,21 +156,6 @@ AnswersTableIn rows cuts =
 -- how directories are counted, as it was read, if these are the numbers that were read; or the options request no walk
 abbrev pub AnswersWalkIn : List Row → Numbers → Result WalkRequest ParseExit → Type 0
 AnswersWalkIn rows numbers = AnswersOr (λ (w : WalkRequest). AreNumbersIn rows numbers → IsWalkOf rows w) (AsksNoWalk rows)
-
--- the count that was read, if these are the numbers that were read; its options may not fit together
-abbrev pub AnswersCountIn : List Row → Numbers → Result CountRequest ParseExit → Type 0
-AnswersCountIn rows numbers =
-    AnswersOr (λ (c : CountRequest). AreNumbersIn rows numbers → IsCountOf rows c) (AreNumbersIn rows numbers → AsksNoCount rows)
-
--- the difference that was read, if these are the numbers that were read; its options may not fit together
-abbrev pub AnswersDiffIn : List Row → Numbers → Result DiffRequest ParseExit → Type 0
-AnswersDiffIn rows numbers =
-    AnswersOr (λ (d : DiffRequest). AreNumbersIn rows numbers → IsDiffOf rows d) (AreNumbersIn rows numbers → AsksNoDiff rows)
-
--- the sum that was read, if these are the numbers that were read; its options may not fit together
-abbrev pub AnswersSumIn : List Row → Cuts → Result SumRequest ParseExit → Type 0
-AnswersSumIn rows cuts =
-    AnswersOr (λ (s : SumRequest). AreCutsIn rows cuts → IsSumOf rows s) (AreCutsIn rows cuts → AsksNoSum rows)
 
 -- the result of reading the words after `check`
 abbrev pub AnswersCheckWords : List (List ℕ) → Result CheckRequest ParseExit → Type 0

@@ -1,8 +1,9 @@
 -- The numbers that were read of options.
-use Rattle.std.specs.{Prelude.{◌≡◌, ◌≤◌, ℕ, List, pos, Some, Option, unwrap_or, option_map, codes}, Str.Parse.digits_value}
-use Rattle.std.specs.Str.Parse.{without_leading_plus}
-use Rattle.clap.specs.{Built.IsParsedFrom, Lexer.without_minus, Matches.found_of, Values.IsSignedIn, Walk.{Row, one_of}}
-use Rattle.clap.specs.declared.{builder.command.Command.Command, parser.matches.{ArgMatches.ArgMatches, Found.Found}}
+use Rattle.std.specs.{Prelude.{◌≡◌, ◌≤◌, ℕ, List, [], ◌∷◌, cond, pos, Some, None, Option, unwrap_or, option_map, codes}, Str.bytes_eq}
+use Rattle.std.specs.Str.Parse.{digits_value, without_leading_plus}
+use Rattle.clap.specs.{Built.IsParsedFrom, Lexer.without_minus, Matches.found_of, Values.IsSignedIn, Walk.{Row, Rule, one_of}}
+use Rattle.clap.specs.declared.builder.{command.Command.Command, value_parser.ValueParser.{ValueParser, TheVariants.Signed}}
+use Rattle.clap.specs.declared.parser.matches.{ArgMatches.ArgMatches, Found.Found}
 use Rattle.lc_arguments.specs.{Options.{max_depth, max_dirs, max_threads, max_top}, declared.numbers.{Cuts.Cuts, Numbers.Numbers}}
 use Rattle.clap.specs.Matches as matches
 
@@ -27,13 +28,15 @@ pub record AreReadWithin (found : Found) : Type 0 where
   pub max_dirs : IsReadWithin found (codes "max-dirs") 1 max_dirs
   pub cuts : AreCutsReadWithin found
 
--- each parse by this command reads values of `--depth` and `--top` that are within their limits
-abbrev pub ReadsCutsWithinLimits : Command → Type 0
-ReadsCutsWithinLimits command = (m : ArgMatches) → IsParsedFrom command m → AreCutsReadWithin (found_of m)
+-- the parser of the first argument with this name
+abbrev pub parser_named : List ℕ → List Rule → Option (Option ValueParser)
+parser_named id [] = None
+parser_named id (r ∷ rs) = cond (bytes_eq r.id id) (Some r.parser) (parser_named id rs)
 
--- each parse by this command reads values of the options with numbers that are within their limits
-abbrev pub ReadsCountWithinLimits : Command → Type 0
-ReadsCountWithinLimits command = (m : ArgMatches) → IsParsedFrom command m → AreReadWithin (found_of m)
+-- the value that was read of each argument that has a number from 1 to a limit, by these rules, is such a number
+abbrev pub AreReadBy : List Rule → Found → Type 0
+AreReadBy rules found =
+    (id : List ℕ) (most : ℕ) → parser_named id rules ≡ Some (Some (Signed (pos 1) (pos most))) → IsReadWithin found id 1 most
 
 -- the number that the digits of an argument's value write, or the digits of its default if no value was read
 abbrev pub IsNumber : List ℕ → List ℕ → List Row → ℕ → Type 0

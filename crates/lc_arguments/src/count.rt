@@ -1,25 +1,22 @@
 //! The command line of `lc count`.
 
-ghost use Rattle.std.specs.Prelude.{map, IfOk};
+ghost use Rattle.std.specs.Prelude.{map};
 ghost use Rattle.clap.specs.Matches.{found_of};
-ghost use Rattle.clap.specs.Walk.{rows_of};
-ghost use Rattle.lc_arguments.specs.CountArgs.{IsCountCommand};
-ghost use Rattle.lc_arguments.specs.Explained.{AnswersCountIn, AnswersCountWords, Explains};
+ghost use Rattle.lc_arguments.specs.Explained.{AnswersCountWords, AnswersIn};
+ghost use Rattle.lc_arguments.specs.Words.{AsksNoCount, IsCountOf};
+ghost use Rattle.lc_arguments.specs.declared.option_row.Subcommand.TheVariants.{Count};
 
-use crate::arguments::{args, bare};
 use crate::combinations::misfit;
 use crate::conditions::conditions_in;
 use crate::directories::directories_in;
-use crate::error_text::problem_of;
 use crate::numbers::Numbers;
 use crate::option_row::Subcommand;
-use crate::request::{ParseExit, explained, unfit};
+use crate::request::{ParseExit, unfit};
 use crate::table::{TableRequest, table_in};
 use crate::walk_request::WalkRequest;
-use crate::{help, suggestions};
-use clap::{ArgMatches, Command, Error};
+use clap::ArgMatches;
 use lc_sheet::Condition;
-use std::alloc::{AllocError, Global};
+use std::alloc::Global;
 use std::convert::AsStr;
 
 /// The options of `lc count`, as in `lc count --threads 8 --exclude-from rules src`.
@@ -40,36 +37,11 @@ pub struct CountRequest<'w> {
     pub directories: Vec<&'w str>,
 }
 
-/// Makes the clap command of `lc count`.
-pub(crate) fn command<'a>(alloc: Global) -> Result<Command<'a>, AllocError>
-    ensures { IfOk result IsCountCommand }
-{
-    let args = args(alloc, Subcommand::Count)?;
-    let command = bare(alloc, "count", help::COUNT)?;
-    command.args(args)
-}
-
-/// Turns an error of clap into a `ParseExit`. If an argument is missing or unknown, the text suggests an `lc count` command.
-fn explained_count<W: AsStr>(alloc: Global, error: &Error, words: &[W]) -> ParseExit
-    ensures { Explains error.now result }
-{
-    let Ok(why) = format!(in alloc; "{error}") else {
-        return ParseExit::Memory;
-    };
-    match suggestions::count(alloc, words, problem_of(&why)) {
-        Ok(advice) => explained(alloc, error, help::COUNT.usage, &advice),
-        Err(AllocError) => ParseExit::Memory,
-    }
-}
-
 /// Reads the options from clap's values, and refuses wrong values. `misfit` then finds options that can't be combined.
-fn request_in<'w>(
-    alloc: Global,
-    matches: &ArgMatches<'w>,
-    numbers: Numbers,
-) -> Result<CountRequest<'w>, ParseExit>
-    ensures { AnswersCountIn (rows_of (found_of matches.now)) numbers result }
+fn request_in<'w>(alloc: Global, matches: &ArgMatches<'w>) -> Result<CountRequest<'w>, ParseExit>
+    ensures { AnswersIn Count IsCountOf AsksNoCount (found_of matches.now) result }
 {
+    let numbers = Numbers::read(matches);
     let walk = WalkRequest::read(alloc, matches, numbers)?;
     let directories = directories_in(alloc, matches)?;
     let table = table_in(alloc, matches, numbers.cuts)?;
@@ -92,14 +64,11 @@ impl<'w> CountRequest<'w> {
     ) -> Result<CountRequest<'w>, ParseExit>
         ensures { AnswersCountWords (map W.text words.entry.now) result }
     {
-        let Ok(command) = command(alloc) else {
-            return Err(ParseExit::Memory);
-        };
-        let matches = match command.try_get_matches_from(words) {
+        let matches = match Subcommand::Count.parsed(alloc, words) {
             Ok(matches) => matches,
-            Err(error) => return Err(explained_count(alloc, &error, words)),
+            Err(no) => return Err(no),
         };
-        let request = match request_in(alloc, &matches, Numbers::read(&matches)) {
+        let request = match request_in(alloc, &matches) {
             Ok(request) => request,
             Err(no) => return Err(no),
         };

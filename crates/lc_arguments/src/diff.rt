@@ -1,24 +1,21 @@
 //! The command line of `lc diff`.
 
-ghost use Rattle.std.specs.Prelude.{map, IfOk};
+ghost use Rattle.std.specs.Prelude.{map};
 ghost use Rattle.clap.specs.Matches.{found_of};
-ghost use Rattle.clap.specs.Walk.{rows_of};
-ghost use Rattle.lc_arguments.specs.CountArgs.{IsDiffCommand};
-ghost use Rattle.lc_arguments.specs.Explained.{AnswersDiffIn, AnswersDiffWords, Explains};
+ghost use Rattle.lc_arguments.specs.Explained.{AnswersDiffWords, AnswersIn};
+ghost use Rattle.lc_arguments.specs.Words.{AsksNoDiff, IsDiffOf};
+ghost use Rattle.lc_arguments.specs.declared.option_row.Subcommand.TheVariants.{Diff};
 
-use crate::arguments::{args, bare};
 use crate::combinations::diff_misfit;
 use crate::conditions::conditions_in;
-use crate::error_text::problem_of;
 use crate::numbers::Numbers;
 use crate::option_row::Subcommand;
-use crate::request::{ParseExit, explained, unfit};
+use crate::request::{ParseExit, unfit};
 use crate::table::{TableRequest, table_in};
 use crate::walk_request::WalkRequest;
-use crate::{help, suggestions};
-use clap::{ArgMatches, Command, Error};
+use clap::ArgMatches;
 use lc_sheet::Condition;
-use std::alloc::{AllocError, Global};
+use std::alloc::Global;
 use std::convert::AsStr;
 
 /// The options of `lc diff`, as in `lc diff --files v1.json src`.
@@ -40,36 +37,11 @@ pub struct DiffRequest<'w> {
     pub new: &'w str,
 }
 
-/// Makes the clap command of `lc diff`.
-pub(crate) fn command<'a>(alloc: Global) -> Result<Command<'a>, AllocError>
-    ensures { IfOk result IsDiffCommand }
-{
-    let args = args(alloc, Subcommand::Diff)?;
-    let command = bare(alloc, "diff", help::DIFF)?;
-    command.args(args)
-}
-
-/// Turns an error of clap into a `ParseExit`. If an argument is missing or unknown, the text suggests an `lc diff` command.
-fn explained_diff(alloc: Global, error: &Error) -> ParseExit
-    ensures { Explains error.now result }
-{
-    let Ok(why) = format!(in alloc; "{error}") else {
-        return ParseExit::Memory;
-    };
-    match suggestions::diff(alloc, problem_of(&why)) {
-        Ok(advice) => explained(alloc, error, help::DIFF.usage, &advice),
-        Err(AllocError) => ParseExit::Memory,
-    }
-}
-
 /// Reads the options from clap's values, and refuses wrong values. `diff_misfit` then finds options that can't be combined.
-fn request_in<'w>(
-    alloc: Global,
-    matches: &ArgMatches<'w>,
-    numbers: Numbers,
-) -> Result<DiffRequest<'w>, ParseExit>
-    ensures { AnswersDiffIn (rows_of (found_of matches.now)) numbers result }
+fn request_in<'w>(alloc: Global, matches: &ArgMatches<'w>) -> Result<DiffRequest<'w>, ParseExit>
+    ensures { AnswersIn Diff IsDiffOf AsksNoDiff (found_of matches.now) result }
 {
+    let numbers = Numbers::read(matches);
     let walk = WalkRequest::read(alloc, matches, numbers)?;
     let table = table_in(alloc, matches, numbers.cuts)?;
     let conditions = conditions_in(alloc, matches)?;
@@ -95,14 +67,11 @@ impl<'w> DiffRequest<'w> {
     ) -> Result<DiffRequest<'w>, ParseExit>
         ensures { AnswersDiffWords (map W.text words.entry.now) result }
     {
-        let Ok(command) = command(alloc) else {
-            return Err(ParseExit::Memory);
-        };
-        let matches = match command.try_get_matches_from(words) {
+        let matches = match Subcommand::Diff.parsed(alloc, words) {
             Ok(matches) => matches,
-            Err(error) => return Err(explained_diff(alloc, &error)),
+            Err(no) => return Err(no),
         };
-        let request = match request_in(alloc, &matches, Numbers::read(&matches)) {
+        let request = match request_in(alloc, &matches) {
             Ok(request) => request,
             Err(no) => return Err(no),
         };

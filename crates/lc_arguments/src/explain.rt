@@ -1,18 +1,12 @@
 //! The command line of `lc explain`.
 
-ghost use Rattle.std.specs.Prelude.{IfOk, map};
-ghost use Rattle.lc_arguments.specs.CommandLine.{explain_app};
-ghost use Rattle.lc_arguments.specs.CountArgs.{IsCommandOf};
-ghost use Rattle.lc_arguments.specs.Explained.{AnswersExplainWords, Explains};
+ghost use Rattle.std.specs.Prelude.{map};
+ghost use Rattle.lc_arguments.specs.Explained.{AnswersExplainWords};
 
-use crate::arguments::{args, bare};
-use crate::error_text::problem_of;
 use crate::filter_request::FilterRequest;
 use crate::option_row::Subcommand;
-use crate::request::{ParseExit, explained};
-use crate::{help, suggestions};
-use clap::{Command, Error};
-use std::alloc::{AllocError, Global};
+use crate::request::ParseExit;
+use std::alloc::Global;
 use std::convert::AsStr;
 
 /// The options of `lc explain`, as in `lc explain . a.log src/m.c`.
@@ -28,28 +22,6 @@ pub struct ExplainRequest<'w> {
     pub paths: Vec<&'w str>,
 }
 
-/// Makes the clap command of `lc explain`.
-pub(crate) fn command<'a>(alloc: Global) -> Result<Command<'a>, AllocError>
-    ensures { IfOk result (IsCommandOf explain_app) }
-{
-    let args = args(alloc, Subcommand::Explain)?;
-    let command = bare(alloc, "explain", help::EXPLAINING)?;
-    command.args(args)
-}
-
-/// Turns an error of clap into a `ParseExit`. If an argument is missing or unknown, the text suggests an `lc explain` command.
-fn explained_explanation<W: AsStr>(alloc: Global, error: &Error, words: &[W]) -> ParseExit
-    ensures { Explains error.now result }
-{
-    let Ok(why) = format!(in alloc; "{error}") else {
-        return ParseExit::Memory;
-    };
-    match suggestions::explain(alloc, words, problem_of(&why)) {
-        Ok(advice) => explained(alloc, error, help::EXPLAINING.usage, &advice),
-        Err(AllocError) => ParseExit::Memory,
-    }
-}
-
 impl<'w> ExplainRequest<'w> {
     /// Reads the arguments after `explain`.
     pub(crate) fn read<W: AsStr>(
@@ -58,12 +30,9 @@ impl<'w> ExplainRequest<'w> {
     ) -> Result<ExplainRequest<'w>, ParseExit>
         ensures { AnswersExplainWords (map W.text words.entry.now) result }
     {
-        let Ok(command) = command(alloc) else {
-            return Err(ParseExit::Memory);
-        };
-        let matches = match command.try_get_matches_from(words) {
+        let matches = match Subcommand::Explain.parsed(alloc, words) {
             Ok(matches) => matches,
-            Err(error) => return Err(explained_explanation(alloc, &error, words)),
+            Err(no) => return Err(no),
         };
         let filters = match FilterRequest::read(alloc, &matches) {
             Ok(filters) => filters,

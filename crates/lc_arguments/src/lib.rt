@@ -23,6 +23,7 @@
 //! - `option_row`: the type of a row of the table of options
 //! - `diff_options`: the rows of the table of options that only `lc diff` uses
 //! - `arguments`: clap's arguments, made from the table of options
+//! - `subcommand`: the commands, as clap parses their arguments
 //! - `help`: the texts of help and of the version
 //! - `long_help`: the texts that `--help` shows about the options
 //! - `error_text`: the texts of usage errors
@@ -58,6 +59,7 @@ mod refusals;
 mod repeated;
 mod reports;
 mod request;
+mod subcommand;
 mod suggestions;
 mod sum;
 mod table;

@@ -15,10 +15,11 @@ use crate::error_text::{advised, number_refused, problem_of, value_refused};
 use crate::explain::ExplainRequest;
 use crate::first_word::count_words;
 use crate::naming::{is_naming_error, is_text_of, with_words};
+use crate::option_row::Subcommand;
 use crate::refusals::{message, visible_words};
 use crate::suggestions::Advice;
 use crate::sum::SumRequest;
-use crate::{arguments, check, count, diff, explain, help, suggestions, sum};
+use crate::{arguments, help, suggestions};
 use clap::error::ErrorKind;
 use clap::{Command, Error};
 use std::alloc::{AllocError, Global};
@@ -66,11 +67,11 @@ fn bare<'a>(alloc: Global) -> Result<Command<'a>, AllocError>
 fn subcommands<'a>(alloc: Global) -> Result<Vec<Command<'a>>, AllocError>
     ensures { IfOk result (λ commands. AreCommandsOf subcommand_apps commands.items) }
 {
-    let count = count::command(alloc)?;
-    let check = check::command(alloc)?;
-    let explain = explain::command(alloc)?;
-    let sum = sum::command(alloc)?;
-    let diff = diff::command(alloc)?;
+    let count = Subcommand::Count.command(alloc)?;
+    let check = Subcommand::Check.command(alloc)?;
+    let explain = Subcommand::Explain.command(alloc)?;
+    let sum = Subcommand::Sum.command(alloc)?;
+    let diff = Subcommand::Diff.command(alloc)?;
     Ok(vec![in alloc; count, sum, diff, check, explain]?)
 }
 

@@ -202,11 +202,7 @@ fn needless(option: &str) -> Option<&'static str> {
 /// let problem = "error: unexpected argument '--json' found";
 /// assert!(rt; count(rt.alloc(), &["--json", "."], problem)?.example.as_str() == "Example: lc count --format json .");
 /// ```
-pub(crate) fn count<W: AsStr>(
-    alloc: Global,
-    words: &[W],
-    problem: &str,
-) -> Result<Advice, AllocError> {
+fn count<W: AsStr>(alloc: Global, words: &[W], problem: &str) -> Result<Advice, AllocError> {
     if let Some(pair) = pair_meant(alloc, words)? {
         return example(alloc, &pair);
     }
@@ -273,11 +269,7 @@ fn value_taken<W: AsStr>(alloc: Global, words: &[W]) -> Result<Option<String>, A
 }
 
 /// Makes the advice for refused arguments of `lc explain`. `problem` is clap's message.
-pub(crate) fn explain<W: AsStr>(
-    alloc: Global,
-    words: &[W],
-    problem: &str,
-) -> Result<Advice, AllocError> {
+fn explain<W: AsStr>(alloc: Global, words: &[W], problem: &str) -> Result<Advice, AllocError> {
     if problem.starts_with("error: the following required") {
         if let Some(tip) = value_taken(alloc, words)? {
             return with_tip(alloc, tip, EXPLAIN);
@@ -286,17 +278,18 @@ pub(crate) fn explain<W: AsStr>(
     option_or(alloc, problem, Subcommand::Explain, EXPLAIN)
 }
 
-/// Makes the advice for refused arguments of `lc check`. `problem` is clap's message.
-pub(crate) fn check(alloc: Global, problem: &str) -> Result<Advice, AllocError> {
-    option_or(alloc, problem, Subcommand::Check, CHECK)
-}
-
-/// Makes the advice for refused arguments of `lc sum`. `problem` is clap's message.
-pub(crate) fn sum(alloc: Global, problem: &str) -> Result<Advice, AllocError> {
-    option_or(alloc, problem, Subcommand::Sum, SUM)
-}
-
-/// Makes the advice for refused arguments of `lc diff`. `problem` is clap's message.
-pub(crate) fn diff(alloc: Global, problem: &str) -> Result<Advice, AllocError> {
-    option_or(alloc, problem, Subcommand::Diff, DIFF)
+/// Makes the advice for refused arguments of a command. `problem` is clap's message.
+pub(crate) fn advice_for<W: AsStr>(
+    alloc: Global,
+    command: Subcommand,
+    words: &[W],
+    problem: &str,
+) -> Result<Advice, AllocError> {
+    match command {
+        Subcommand::Count => count(alloc, words, problem),
+        Subcommand::Explain => explain(alloc, words, problem),
+        Subcommand::Check => option_or(alloc, problem, command, CHECK),
+        Subcommand::Sum => option_or(alloc, problem, command, SUM),
+        Subcommand::Diff => option_or(alloc, problem, command, DIFF),
+    }
 }

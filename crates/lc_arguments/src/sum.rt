@@ -1,25 +1,22 @@
 //! The command line of `lc sum`.
 
-ghost use Rattle.std.specs.Prelude.{◌≡◌, is_some, map, not, IfOk};
+ghost use Rattle.std.specs.Prelude.{◌≡◌, is_some, map, not};
 ghost use Rattle.clap.specs.Matches.{found_of};
-ghost use Rattle.clap.specs.Walk.{rows_of};
 ghost use Rattle.lc_arguments.specs.Combinations.{table_fits};
-ghost use Rattle.lc_arguments.specs.CountArgs.{IsSumCommand};
-ghost use Rattle.lc_arguments.specs.Explained.{AnswersSumIn, AnswersSumWords, Explains};
+ghost use Rattle.lc_arguments.specs.Explained.{AnswersSumWords, AnswersIn};
+ghost use Rattle.lc_arguments.specs.Words.{AsksNoSum, IsSumOf};
+ghost use Rattle.lc_arguments.specs.declared.option_row.Subcommand.TheVariants.{Sum};
 
-use crate::arguments::{args, bare};
 use crate::combinations::table_misfit;
 use crate::conditions::conditions_in;
-use crate::error_text::problem_of;
 use crate::numbers::Cuts;
 use crate::option_row::Subcommand;
 use crate::reports::{NamedReport, reports_in};
-use crate::request::{ParseExit, explained, unfit};
+use crate::request::{ParseExit, unfit};
 use crate::table::{TableRequest, table_in};
-use crate::{help, suggestions};
-use clap::{ArgMatches, Command, Error};
+use clap::ArgMatches;
 use lc_sheet::Condition;
-use std::alloc::{AllocError, Global};
+use std::alloc::Global;
 use std::convert::AsStr;
 
 /// The options of `lc sum`, as in `lc sum --by dir v1=v1.json v2=v2.json`.
@@ -38,36 +35,11 @@ pub struct SumRequest<'w> {
     pub reports: Vec<NamedReport<'w>>,
 }
 
-/// Makes the clap command of `lc sum`.
-pub(crate) fn command<'a>(alloc: Global) -> Result<Command<'a>, AllocError>
-    ensures { IfOk result IsSumCommand }
-{
-    let args = args(alloc, Subcommand::Sum)?;
-    let command = bare(alloc, "sum", help::SUM)?;
-    command.args(args)
-}
-
-/// Turns an error of clap into a `ParseExit`. If an argument is missing or unknown, the text suggests an `lc sum` command.
-fn explained_sum(alloc: Global, error: &Error) -> ParseExit
-    ensures { Explains error.now result }
-{
-    let Ok(why) = format!(in alloc; "{error}") else {
-        return ParseExit::Memory;
-    };
-    match suggestions::sum(alloc, problem_of(&why)) {
-        Ok(advice) => explained(alloc, error, help::SUM.usage, &advice),
-        Err(AllocError) => ParseExit::Memory,
-    }
-}
-
 /// Reads the options from clap's values, and refuses wrong values. `misfit` then finds options that can't be combined.
-fn request_in<'w>(
-    alloc: Global,
-    matches: &ArgMatches<'w>,
-    cuts: Cuts,
-) -> Result<SumRequest<'w>, ParseExit>
-    ensures { AnswersSumIn (rows_of (found_of matches.now)) cuts result }
+fn request_in<'w>(alloc: Global, matches: &ArgMatches<'w>) -> Result<SumRequest<'w>, ParseExit>
+    ensures { AnswersIn Sum IsSumOf AsksNoSum (found_of matches.now) result }
 {
+    let cuts = Cuts::read(matches);
     let table = table_in(alloc, matches, cuts)?;
     let conditions = conditions_in(alloc, matches)?;
     let reports = reports_in(alloc, matches)?;
@@ -92,14 +64,11 @@ impl<'w> SumRequest<'w> {
     pub(crate) fn read<W: AsStr>(alloc: Global, words: &'w [W]) -> Result<SumRequest<'w>, ParseExit>
         ensures { AnswersSumWords (map W.text words.entry.now) result }
     {
-        let Ok(command) = command(alloc) else {
-            return Err(ParseExit::Memory);
-        };
-        let matches = match command.try_get_matches_from(words) {
+        let matches = match Subcommand::Sum.parsed(alloc, words) {
             Ok(matches) => matches,
-            Err(error) => return Err(explained_sum(alloc, &error)),
+            Err(no) => return Err(no),
         };
-        let request = match request_in(alloc, &matches, Cuts::read(&matches)) {
+        let request = match request_in(alloc, &matches) {
             Ok(request) => request,
             Err(no) => return Err(no),
         };

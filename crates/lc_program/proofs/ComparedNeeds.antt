@@ -1,5 +1,5 @@
 -- What a comparison needs of its sides.
-use Rattle.std.proofs.Common.{◌≡◌, ◌||◌, ℕ, Bool, true, false, if◌then◌else◌, List, Result, is_some, refl, subst, ap, ◌∙◌, sym}
+use Rattle.std.proofs.Common.{◌≡◌, ◌||◌, ℕ, Bool, true, false, if◌then◌else◌, List, Result, is_some, refl, subst, ap, ◌∙◌}
 use Rattle.lc_arguments.specs.declared.{diff.DiffRequest.DiffRequest, walk_request.WalkRequest.WalkRequest}
 use Rattle.lc_changes.specs.ChangeSheets.{needs_files}
 use Rattle.lc_io.specs.Reads.{Answer}

@@ -14,7 +14,6 @@ use Rattle.lc_arguments.specs.{Words.{AreRefused, Asks, MayShow, faults_in}, dec
 use Rattle.lc_arguments.specs.declared.request.Request.TheVariants.{Count, Diff, Explain, Sum}
 use Rattle.lc_sheet.specs.declared.table_options.Format.{Format}
 use Rattle.lc_paths.specs.declared.outcome.Outcome.TheVariants as outcome
-use Rattle.lc_walk.specs.AllColumns.{all_columns}
 
 abbrev pub status_of : Ending → ℕ
 status_of Done = 0

@@ -6,7 +6,6 @@ use Rattle.lc_paths.specs.declared.{outcome.Outcome.Outcome, style.PathStyle.Pat
 use Rattle.lc_paths.specs.{declared.explaining.explain_options.ExplainOptions.ExplainOptions, Explanations.Answers.{MaySay, AnswersLines}}
 use Rattle.lc_paths.specs.Explanations.{Explained.IsExplained, OpenDirs.MayEnter}
 use Rattle.lc_tree.specs.Trees.{Listings, Contents}
-use Rattle.lc_io.specs.declared.printing.PrintFault.TheVariants as print
 
 module _ {O : Type 0} (may_take : O → List ℕ → Result ℕ Failed → O → Type 0) where
   -- what is answered by the parts of a question is answered by the question

@@ -10,8 +10,6 @@ use Rattle.lc_paths.specs.Explanations.Explained.{Explanation, IsExplained}
 use Rattle.lc_paths.specs.Explanations.ExplainText.{Told, named_path, names_dir, explained_line, told_text, is_fault, has_fault}
 use Rattle.lc_paths.specs.Explanations.OpenDirs.{MayEnter}
 use Rattle.lc_tree.specs.Trees.{Listings, Contents}
-use Rattle.lc_io.specs.declared.whole.WholeFault.TheVariants as whole
-use Rattle.lc_io.specs.declared.printing.PrintFault.TheVariants as print
 
 -- the explanations that a path may have, by what the listings and the files of a tree may answer, and by the options
 abbrev pub MaySay : (List ℕ → Listings) → (List ℕ → Contents) → ExplainOptions → List ℕ → Bool → Explanation → Type 0

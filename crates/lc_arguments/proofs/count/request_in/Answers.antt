@@ -1,44 +1,47 @@
 use Rattle.std.proofs.Common.{codes, inl, inr, refl}
 use Rattle.clap.specs.{Matches.found_of, Walk.rows_of}
 use Rattle.lc_arguments.specs.{ReadNumbers.AreCutsIn, Words.{AsksNoTable, AsksNoWalk, Misvalue, NamesOneTwice}}
-use Rattle.lc_arguments.proofs.{WordFaults.flag_of, Misnaming.no_count_in}
+use Rattle.lc_arguments.proofs.{WordFaults.flag_of, Misnaming.passed_on}
+use Rattle.lc_arguments.specs.{CommandLine.rules_in, Options.options, declared.option_row.Subcommand.TheVariants.Count}
+use Rattle.lc_arguments.proofs.CommandRules.{numbers_within}
 use Rattle.lc_arguments.proofs.count.request_in.Goals as goal
 
 pub returns-in_err-walk : goal.returns-in_err-walk
 returns-in_err-walk c =
     let rows = rows_of (found_of c.args.matches.now) in
-    no_count_in rows c.args.numbers c.from_residual.result c.in_err-walk.field-0.0 (AsksNoWalk rows) (λ bad are. inl bad)
+    passed_on _ (AsksNoWalk rows) _ c.from_residual.result c.in_err-walk.field-0.0 (λ bad are. inl bad)
     c.from_residual.ensures.1 c.in_err-walk.ensures
 
 pub returns-in_err-directories : goal.returns-in_err-directories
 returns-in_err-directories c =
     let rows = rows_of (found_of c.args.matches.now) in
-    no_count_in rows c.args.numbers c.from_residual-in_err-directories.result c.in_err-directories.field-0.0
-    (NamesOneTwice rows) (λ bad are. inr (inl bad))
+    passed_on _ (NamesOneTwice rows) _ c.from_residual-in_err-directories.result c.in_err-directories.field-0.0 (λ bad are. inr (inl bad))
     c.from_residual-in_err-directories.ensures.1 c.in_err-directories.ensures
 
 pub returns-in_err-table : goal.returns-in_err-table
 returns-in_err-table c =
     let rows = rows_of (found_of c.args.matches.now) in
-    no_count_in rows c.args.numbers c.from_residual-in_err-table.result c.in_err-table.field-0.0
-    (AreCutsIn rows c.args.numbers.cuts → AsksNoTable rows) (λ bad are. inr (inr (inl (bad are.cuts))))
+    passed_on _ (AreCutsIn rows c.read-numbers.result.cuts
+    → AsksNoTable rows) _ c.from_residual-in_err-table.result c.in_err-table.field-0.0
+    (λ bad are. inr (inr (inl (bad (c.read-numbers.ensures
+    (numbers_within (rules_in Count options) (found_of c.args.matches.now) are refl refl refl refl)).cuts))))
     c.from_residual-in_err-table.ensures.1 c.in_err-table.ensures
 
 pub returns-in_err-conditions : goal.returns-in_err-conditions
 returns-in_err-conditions c =
     let rows = rows_of (found_of c.args.matches.now) in
-    no_count_in rows c.args.numbers c.from_residual-in_err-conditions.result c.in_err-conditions.field-0.0
-    (Misvalue rows) (λ bad are. inl (inl bad))
+    passed_on _ (Misvalue rows) _ c.from_residual-in_err-conditions.result c.in_err-conditions.field-0.0 (λ bad are. inl (inl bad))
     c.from_residual-in_err-conditions.ensures.1 c.in_err-conditions.ensures
 
 pub returns : goal.returns
 returns c = λ are.
+    let numbers = c.read-numbers.ensures (numbers_within (rules_in Count options) (found_of c.args.matches.now) are refl refl refl refl) in
     let f = found_of c.args.matches.now in
     let rows = rows_of f in
     record {
-      walk = c.in_ok-walk.ensures are;
+      walk = c.in_ok-walk.ensures numbers;
       left_out = flag_of rows f (codes "left-out") c.get_flag.result refl c.get_flag.ensures.value c.get_flag.ensures.other;
-      table = c.in_ok-table.ensures are.cuts;
+      table = c.in_ok-table.ensures numbers.cuts;
       conditions = c.in_ok-conditions.ensures;
       fail_if_any = flag_of rows f (codes "fail-if-any") c.get_flag-2.result refl c.get_flag-2.ensures.value c.get_flag-2.ensures.other;
       directories = c.in_ok-directories.ensures;

@@ -1,36 +1,40 @@
 use Rattle.std.proofs.Common.{codes, inl, inr, refl}
 use Rattle.clap.specs.{Matches.found_of, Walk.rows_of}
 use Rattle.lc_arguments.specs.{ReadNumbers.AreCutsIn, Words.{AsksNoTable, AsksNoWalk, Misvalue}}
-use Rattle.lc_arguments.proofs.{WordFaults.{flag_of, text_or}, Misnaming.no_diff_in}
+use Rattle.lc_arguments.proofs.{WordFaults.{flag_of, text_or}, Misnaming.passed_on}
+use Rattle.lc_arguments.specs.{CommandLine.rules_in, Options.options, declared.option_row.Subcommand.TheVariants.Diff}
+use Rattle.lc_arguments.proofs.CommandRules.{numbers_within}
 use Rattle.lc_arguments.proofs.diff.request_in.Goals as goal
 
 pub returns-in_err-walk : goal.returns-in_err-walk
 returns-in_err-walk c =
     let rows = rows_of (found_of c.args.matches.now) in
-    no_diff_in rows c.args.numbers c.from_residual.result c.in_err-walk.field-0.0 (AsksNoWalk rows) (λ bad are. inl bad)
+    passed_on _ (AsksNoWalk rows) _ c.from_residual.result c.in_err-walk.field-0.0 (λ bad are. inl bad)
     c.from_residual.ensures.1 c.in_err-walk.ensures
 
 pub returns-in_err-table : goal.returns-in_err-table
 returns-in_err-table c =
     let rows = rows_of (found_of c.args.matches.now) in
-    no_diff_in rows c.args.numbers c.from_residual-in_err-table.result c.in_err-table.field-0.0
-    (AreCutsIn rows c.args.numbers.cuts → AsksNoTable rows) (λ bad are. inr (inl (bad are.cuts)))
+    passed_on _ (AreCutsIn rows c.read-numbers.result.cuts
+    → AsksNoTable rows) _ c.from_residual-in_err-table.result c.in_err-table.field-0.0
+    (λ bad are. inr (inl (bad (c.read-numbers.ensures
+    (numbers_within (rules_in Diff options) (found_of c.args.matches.now) are refl refl refl refl)).cuts)))
     c.from_residual-in_err-table.ensures.1 c.in_err-table.ensures
 
 pub returns-in_err-conditions : goal.returns-in_err-conditions
 returns-in_err-conditions c =
     let rows = rows_of (found_of c.args.matches.now) in
-    no_diff_in rows c.args.numbers c.from_residual-in_err-conditions.result c.in_err-conditions.field-0.0
-    (Misvalue rows) (λ bad are. inl (inl bad))
+    passed_on _ (Misvalue rows) _ c.from_residual-in_err-conditions.result c.in_err-conditions.field-0.0 (λ bad are. inl (inl bad))
     c.from_residual-in_err-conditions.ensures.1 c.in_err-conditions.ensures
 
 pub returns : goal.returns
 returns c = λ are.
+    let numbers = c.read-numbers.ensures (numbers_within (rules_in Diff options) (found_of c.args.matches.now) are refl refl refl refl) in
     let f = found_of c.args.matches.now in
     let rows = rows_of f in
-    let table = (c.in_ok-table.ensures are.cuts).plain in
+    let table = (c.in_ok-table.ensures numbers.cuts).plain in
     record {
-      walk = c.in_ok-walk.ensures are;
+      walk = c.in_ok-walk.ensures numbers;
       table = record {
         within = table.within;
         named = record { format_is = table.named.format_is; by_is = table.named.by_is; sort_is = table.named.sort_is };

@@ -1,27 +1,29 @@
 use Rattle.std.proofs.Common.{codes, inl, inr, refl}
 use Rattle.clap.specs.{Matches.found_of, Walk.rows_of}
 use Rattle.lc_arguments.specs.{Words.{AsksNoTable, MisnamesReports, Misvalue}, ReadNumbers.AreCutsIn}
-use Rattle.lc_arguments.proofs.{WordFaults.flag_of, Misnaming.no_sum_in}
+use Rattle.lc_arguments.proofs.{WordFaults.flag_of, Misnaming.passed_on}
+use Rattle.lc_arguments.specs.{CommandLine.rules_in, Options.options, declared.option_row.Subcommand.TheVariants.Sum}
+use Rattle.lc_arguments.proofs.CommandRules.{cuts_within}
 use Rattle.lc_arguments.proofs.sum.request_in.Goals as goal
 
 pub returns-in_err-table : goal.returns-in_err-table
 returns-in_err-table c =
     let rows = rows_of (found_of c.args.matches.now) in
-    no_sum_in rows c.args.cuts c.from_residual.result c.in_err-table.field-0.0
-    (AreCutsIn rows c.args.cuts → AsksNoTable rows) (λ bad are. inr (inr (inl (bad are))))
+    passed_on _ (AreCutsIn rows c.read-cuts.result → AsksNoTable rows) _ c.from_residual.result c.in_err-table.field-0.0
+    (λ bad are. inr (inr (inl (bad (c.read-cuts.ensures
+    (cuts_within (rules_in Sum options) (found_of c.args.matches.now) are refl refl))))))
     c.from_residual.ensures.1 c.in_err-table.ensures
 
 pub returns-in_err-conditions : goal.returns-in_err-conditions
 returns-in_err-conditions c =
     let rows = rows_of (found_of c.args.matches.now) in
-    no_sum_in rows c.args.cuts c.from_residual-in_err-conditions.result c.in_err-conditions.field-0.0 (Misvalue rows) (λ bad are. inl bad)
+    passed_on _ (Misvalue rows) _ c.from_residual-in_err-conditions.result c.in_err-conditions.field-0.0 (λ bad are. inl bad)
     c.from_residual-in_err-conditions.ensures.1 c.in_err-conditions.ensures
 
 pub returns-in_err-reports : goal.returns-in_err-reports
 returns-in_err-reports c =
     let rows = rows_of (found_of c.args.matches.now) in
-    no_sum_in rows c.args.cuts c.from_residual-in_err-reports.result c.in_err-reports.field-0.0
-    (MisnamesReports rows) (λ bad are. inr (inl bad))
+    passed_on _ (MisnamesReports rows) _ c.from_residual-in_err-reports.result c.in_err-reports.field-0.0 (λ bad are. inr (inl bad))
     c.from_residual-in_err-reports.ensures.1 c.in_err-reports.ensures
 
 pub returns : goal.returns
@@ -30,7 +32,7 @@ returns c = λ are.
     let rows = rows_of f in
     record {
       left_out = flag_of rows f (codes "left-out") c.get_flag.result refl c.get_flag.ensures.value c.get_flag.ensures.other;
-      table = c.in_ok-table.ensures are;
+      table = c.in_ok-table.ensures (c.read-cuts.ensures (cuts_within (rules_in Sum options) (found_of c.args.matches.now) are refl refl));
       conditions = c.in_ok-conditions.ensures;
       fail_if_any = flag_of rows f (codes "fail-if-any") c.get_flag-2.result refl c.get_flag-2.ensures.value c.get_flag-2.ensures.other;
       reports = c.in_ok-reports.ensures;

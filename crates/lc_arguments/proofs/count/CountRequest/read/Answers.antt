@@ -1,57 +1,25 @@
-use Rattle.std.proofs.Common.{inr, map, subst, List, Err, Ok}
-use Rattle.clap.specs.{Simple.matches_of, Walk.Row}
-use Rattle.lc_arguments.specs.{CommandLine.count_app, Explained.AnswersCountIn, Combinations.fit_together, Words.{AsksNoCount, IsCountOf}}
-use Rattle.lc_arguments.specs.ReadNumbers.{AreNumbersIn}
-use Rattle.lc_arguments.proofs.{WordFaults.{count_is_free, count_is_simple, fails_as, matches_as, no_request_of}, Misnaming.none_wrong}
-use Rattle.lc_arguments.proofs.Misnaming.{one_wrong, refused_for, refused_with, unread_by, unread_for}
+use Rattle.std.proofs.Common.{inr, map}
+use Rattle.clap.specs.Matches.{found_of}
+use Rattle.lc_arguments.specs.{CommandLine.count_app, Combinations.fit_together, Words.{AsksNoCount, IsCountOf}}
+use Rattle.lc_arguments.specs.declared.option_row.Subcommand.TheVariants.{Count}
+use Rattle.lc_arguments.proofs.Misnaming.{fit_in, refused_in, unfit_in, unread_by}
 use Rattle.lc_arguments.proofs.count.CountRequest.read.Goals as goal
 
 pub returns-in-Err : goal.returns-in-Err
-returns-in-Err g c =
-    unread_by count_app AsksNoCount (map g.W.AsStr.text c.args.words.now) c.explained_count.result
-    (no_request_of c.in-Ok.command count_app (map g.W.AsStr.text c.args.words.now) c.in-Err.error c.explained_count.result
-    c.in-Ok.ensures.0.0 count_is_free c.in-Err.ensures.kinds c.explained_count.ensures)
+returns-in-Err g c = unread_by count_app AsksNoCount (map g.W.AsStr.text c.args.words.now) c.in-Err.no c.in-Err.ensures
 
 pub returns-in-Err-request_in : goal.returns-in-Err-request_in
 returns-in-Err-request_in g c =
-    let words = map g.W.AsStr.text c.args.words.now in
-    let m = c.in-Ok-try_get_matches_from.matches in
-    let is = c.in-Ok.ensures.0.0 in
-    let parse = c.in-Ok-try_get_matches_from.ensures in
-    let rows = matches_as c.in-Ok.command count_app words m is count_is_simple parse.matches in
-    let numbers = c.read.result in
-    let are = subst (λ (rs : List Row). AreNumbersIn rs numbers) rows (c.read.ensures (c.in-Ok.ensures.1 m parse.parsed)) in
-    let why = c.in-Err-request_in.no in
-    unread_for count_app AsksNoCount words why (fails_as c.in-Ok.command count_app words (Ok m) is count_is_free parse.kinds)
-    (refused_with _ (AsksNoCount (matches_of count_app words)) why (λ asks. asks are)
-    (subst (λ (rs : List Row). AnswersCountIn rs numbers (Err why)) rows c.in-Err-request_in.ensures))
+    refused_in Count (map g.W.AsStr.text c.args.words.now) (found_of c.in-Ok.matches) c.in-Ok.ensures AsksNoCount c.in-Err-request_in.no
+    c.in-Err-request_in.ensures
 
 pub returns-in-None : goal.returns-in-None
 returns-in-None g c =
-    let words = map g.W.AsStr.text c.args.words.now in
-    let m = c.in-Ok-try_get_matches_from.matches in
-    let is = c.in-Ok.ensures.0.0 in
-    let parse = c.in-Ok-try_get_matches_from.ensures in
-    let request = c.in-Ok-request_in.request in
-    let rows = matches_as c.in-Ok.command count_app words m is count_is_simple parse.matches in
-    let found = c.in-Ok-request_in.ensures (c.read.ensures (c.in-Ok.ensures.1 m parse.parsed)) in (
-      fails_as c.in-Ok.command count_app words (Ok m) is count_is_free parse.kinds,
-      (subst (λ (rs : List Row). IsCountOf rs request) rows found, none_wrong (fit_together request) (rw c.in-None.is at c.misfit.ensures)),
-    )
+    fit_in Count (map g.W.AsStr.text c.args.words.now) (found_of c.in-Ok.matches) c.in-Ok.ensures IsCountOf fit_together
+    c.in-Ok-request_in.request c.in-Ok-request_in.ensures (rw c.in-None.is at c.misfit.ensures)
 
 pub returns : goal.returns
 returns g c =
-    let words = map g.W.AsStr.text c.args.words.now in
-    let m = c.in-Ok-try_get_matches_from.matches in
-    let is = c.in-Ok.ensures.0.0 in
-    let parse = c.in-Ok-try_get_matches_from.ensures in
-    let request = c.in-Ok-request_in.request in
-    let rows = matches_as c.in-Ok.command count_app words m is count_is_simple parse.matches in
-    let found = c.in-Ok-request_in.ensures (c.read.ensures (c.in-Ok.ensures.1 m parse.parsed)) in
-    unread_for count_app AsksNoCount words c.unfit.result
-    (fails_as c.in-Ok.command count_app words (Ok m) is count_is_free parse.kinds)
-    (refused_for (AsksNoCount (matches_of count_app words)) c.unfit.result c.unfit.ensures (inr (inr (inr (
-      request,
-      subst (λ (rs : List Row). IsCountOf rs request) rows found,
-      one_wrong (fit_together request) (rw c.in-Some.is at c.misfit.ensures),
-    )))))
+    unfit_in Count (map g.W.AsStr.text c.args.words.now) (found_of c.in-Ok.matches) c.in-Ok.ensures IsCountOf fit_together
+    c.in-Ok-request_in.request c.in-Ok-request_in.ensures AsksNoCount c.unfit.result c.unfit.ensures (rw c.in-Some.is at c.misfit.ensures)
+    (λ misfit. inr (inr (inr misfit)))
