@@ -18,6 +18,5 @@ mod TextsLoaded
 mod Told
 mod Stopping
 mod ChangesPrinted
-mod ChangesReplied
 mod ComparedNeeds
 mod SidesGiven

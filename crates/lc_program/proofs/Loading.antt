@@ -1,10 +1,9 @@
 -- Faults that are passed on as replies.
-use Rattle.std.proofs.Common.{◌≡◌, ◌∙◌, ℕ, List, Result, Ok, Err, ap, refl, subst, sym}
-use Rattle.std.specs.{Prelude.{String, string_bytes}, Global.Global, Result.IsErrAnd}
+use Rattle.std.proofs.Common.{◌≡◌, ◌∙◌, Result, Ok, Err, ap, sym}
+use Rattle.std.specs.Result.{IsErrAnd}
 use Rattle.lc_paths.specs.declared.check_fault.CheckFault.{CheckFault}
 use Rattle.lc_walk.specs.declared.report.Report.{Report}
-use Rattle.lc_program.specs.{Causes.check_cause, Replies.{IsRunReply, Reply, checked}, Sums.sum_reply, Unnamed.AreUnnamedLines}
-use Rattle.lc_program.specs.declared.{answered.Answered.TheVariants.Counted, cause.Cause.Cause}
+use Rattle.lc_program.specs.{Causes.check_cause, Replies.{Reply, checked}, Sums.sum_reply, declared.cause.Cause.Cause}
 
 -- the fault of a check that was passed on is the reply
 pub fault_replied : (reply : Reply) (answer : Result (Unit {0}) CheckFault) (fault : CheckFault)
@@ -12,24 +11,11 @@ pub fault_replied : (reply : Reply) (answer : Result (Unit {0}) CheckFault) (fau
 fault_replied (Ok outcome) answer fault is was = absurd is
 fault_replied (Err cause) answer fault is was = ap Err is ∙ sym (ap checked was)
 
--- and so is that of a count
-pub run_replied : (attributes : List (List ℕ)) (reply : Reply) (answer : Result Report Cause) (cause : Cause)
-    → IsErrAnd reply (λ given. given ≡ cause) → answer ≡ Err cause → IsRunReply attributes answer reply
-run_replied attributes (Ok answered) answer cause is was = absurd is
-run_replied attributes (Err given) answer cause is was =
-    subst (λ (a : Result Report Cause). IsRunReply attributes a (Err given)) (sym was) (ap Err is)
-
--- and that of a sum
+-- and so is that of a sum
 pub sum_replied : (reply : Reply) (answer : Result Report Cause) (cause : Cause) → IsErrAnd reply (λ given. given ≡ cause)
     → answer ≡ Err cause → reply ≡ sum_reply answer
 sum_replied (Ok answered) answer cause is was = absurd is
 sum_replied (Err given) answer cause is was = ap Err is ∙ sym (ap sum_reply was)
-
--- a count that was done is replied with the report of what was shown and lines about some attributes
-pub run_counted : (attributes : List (List ℕ)) (answer : Result Report Cause) (left : Report) (unnamed : String Global)
-    → AreUnnamedLines attributes (string_bytes unnamed) → answer ≡ Ok left → IsRunReply attributes answer (Ok (Counted left unnamed))
-run_counted attributes answer left unnamed are was =
-    subst (λ (a : Result Report Cause). IsRunReply attributes a (Ok (Counted left unnamed))) (sym was) (unnamed, are, refl)
 
 -- a cause that was passed on is the reply
 pub given_up : (reply : Reply) (cause : Cause) → IsErrAnd reply (λ given. given ≡ cause) → reply ≡ Err cause

@@ -1,12 +1,11 @@
 -- How a count is answered, by what was read and written.
-use Rattle.std.specs.Prelude.{◌≡◌, ◌⊎◌, ◌||◌, ℕ, List, [], ◌∷◌, ◌++◌, flat_map, map, Result, Ok, Err, Vec, is_some, Option, unwrap_or}
-use Rattle.std.specs.{Borrow.Bor, Global.Global}
+use Rattle.std.specs.Prelude.{◌≡◌, ◌⊎◌, ◌||◌, ℕ, List, [], ◌∷◌, ◌++◌, flat_map, map, Result, Ok, Err, is_some, unwrap_or}
 use Rattle.lc_arguments.specs.{Combinations.is_picture, TableWords.options_in, declared.count.CountRequest.CountRequest}
 use Rattle.lc_io.specs.{Reads.Answer, declared.{source.Failed.Failed, printing.PrintFault.PrintFault}}
 use Rattle.lc_level.specs.NamedAttributes.{attributes_of}
 use Rattle.lc_program.specs.{Finds.{Finds, FindsNone}, Nested.{AreApart, AreNested}, Runs.AnswersTable, Causes.print_cause}
-use Rattle.lc_program.specs.{Replies.{IsRunReply, Reply}, Filters.{Excludes, LacksRules, filters_of}, Systems.SystemMay}
-use Rattle.lc_program.specs.{WalkRequests.{AnswersPathsOf, IsAskedBy, entered_by}, declared.cause.Cause.{Cause, TheVariants.Memory}}
+use Rattle.lc_program.specs.{Replies.{IsReplyWith, Reply}, Systems.SystemMay, WalkRequests.{IsPrepared, IsUnprepared, entered_by}}
+use Rattle.lc_program.specs.declared.{answered.Answered.TheVariants.Counted, cause.Cause.{Cause, TheVariants.Memory}}
 use Rattle.lc_sheet.specs.{Conditions.needs_files, declared.table_options.Format.Format}
 use Rattle.lc_walk.specs.{Walks.Walks, declared.{options.{Options.Options, ReportLists.ReportLists}, report.Report.Report}}
 use Rattle.lc_walk.specs.declared.walk_fault.WalkFault.{WalkFault}
@@ -57,23 +56,14 @@ module _ (may : SystemMay) {O : Type 0} (may_take : O → List ℕ → Result �
 
 module _ (may : SystemMay) {I O : Type 0} (may_give : I → ℕ → Answer → I → Type 0)
     (may_take : O → List ℕ → Result ℕ Failed → O → Type 0) (other : Format) (c : CountRequest) where
-  -- the rules and the paths of the command line were read, the directories were counted by them, and the result was printed or gives this
-  -- reply
-  abbrev pub Runs : I → O → Reply → I → O → Type 0
-  Runs input out reply read wrote =
-      (text : Option (List ℕ)) × Excludes may.hold c.walk.filters.exclude_from text
-      × ((paths : Vec (Bor (List ℕ)) Global) × AnswersPathsOf may may_give c.walk input (Ok paths) read
-      × ((o : Options) × IsAskedBy c.walk (lists_of c) (filters_of c.walk.filters text (map (λ path. path.now) paths.items)) o
-      × ((answer : Result Report Cause) × IsRunReply (attributes_of c.walk.filters.without.items) answer reply
-      × Prints may may_take other c o out answer wrote)))
-
-  -- how a count of directories is answered of which none lies in another: the count was made; or there were no rules or no memory, and
-  -- nothing was read; or there were no paths. In the last two cases nothing was written
+  -- how a count of directories is answered of which none lies in another: the directories were counted as the command line requests, and
+  -- the result was printed or gives this reply; or the walks could not be prepared, and nothing was written
   abbrev pub AnswersApart : I → O → Reply → I → O → Type 0
   AnswersApart input out reply read wrote =
-      Runs input out reply read wrote
-      ⊎ ((cause : Cause) × (reply ≡ Err cause) × (wrote ≡ out)
-      × (((LacksRules may.hold c.walk.filters cause ⊎ (cause ≡ Memory)) × (read ≡ input)) ⊎ AnswersPathsOf may may_give c.walk input (Err cause) read))
+      ((o : Options) × IsPrepared may may_give c.walk (lists_of c) input o read
+      × ((answer : Result Report Cause) × IsReplyWith Counted (attributes_of c.walk.filters.without.items) answer reply
+      × Prints may may_take other c o out answer wrote))
+      ⊎ ((cause : Cause) × IsUnprepared may may_give c.walk input cause read × (reply ≡ Err cause) × (wrote ≡ out))
 
   -- how a count is answered. Either no directory is the same as another or lies in another, and they are counted; or one is or does, or
   -- an allocation failed, and nothing was read or written

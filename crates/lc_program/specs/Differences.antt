@@ -1,14 +1,13 @@
 -- How a comparison is answered, by what was read and written.
-use Rattle.std.specs.Prelude.{◌≡◌, ◌⊎◌, ℕ, Bool, true, false, cond, List, map, Option, Some, None, Result, Ok, Err, String, Vec}
-use Rattle.std.specs.{Prelude.{string_bytes, unwrap_or}, Borrow.Bor, Global.Global}
+use Rattle.std.specs.Prelude.{◌≡◌, ◌⊎◌, ℕ, Bool, true, false, cond, List, Some, None, Result, Ok, Err, unwrap_or}
 use Rattle.lc_arguments.specs.{TableWords.{is_for_reading, number_of, output_in}, declared.diff.DiffRequest.DiffRequest}
 use Rattle.lc_arguments.specs.declared.table.TableRequest.{TableRequest}
 use Rattle.lc_changes.specs.{ChangeSheets.{AreChangesOf, ChangesModel}, declared.options.ChangeOptions.ChangeOptions}
 use Rattle.lc_formats.specs.Texts.{IsTextIn}
 use Rattle.lc_io.specs.{Reads.Answer, Writes.{StopsWriting, Writes}, declared.{printing.PrintFault.PrintFault, source.Failed.Failed}}
 use Rattle.lc_level.specs.NamedAttributes.{attributes_of}
-use Rattle.lc_program.specs.{Causes.print_cause, Choices.AnswersChoices, Filters.{Excludes, LacksRules, filters_of}, Replies.Reply}
-use Rattle.lc_program.specs.{Sides.GivesSides, Systems.SystemMay, Unnamed.AreUnnamedLines, WalkRequests.{AnswersPathsOf, IsAskedBy}}
+use Rattle.lc_program.specs.{Causes.print_cause, Choices.AnswersChoices, Replies.{IsReplyWith, Reply}, Sides.GivesSides, Systems.SystemMay}
+use Rattle.lc_program.specs.WalkRequests.{IsPrepared, IsUnprepared}
 use Rattle.lc_program.specs.declared.{answered.Answered.TheVariants.Compared, cause.Cause.{Cause, TheVariants.Memory}}
 use Rattle.lc_program.specs.declared.comparison.Comparison.{Comparison}
 use Rattle.lc_rows.specs.Kept.{IsKept}
@@ -78,40 +77,27 @@ module _ {O : Type 0} (may_take : O → List ℕ → Result ℕ Failed → O →
       ⊎ ((a b : Report) × (fault : PrintFault) × IsKept d.conditions.items old a × IsKept d.conditions.items new b
       × (cause ≡ print_cause fault) × AnswersChanges (change_options other d) a b out (Err fault) wrote)
 
--- the reply to a comparison: what was compared, and lines about some of these attributes
-abbrev pub IsCompareReply : List (List ℕ) → Result Comparison Cause → Reply → Type 0
-IsCompareReply attributes (Ok c) reply =
-    (unnamed : String Global) × AreUnnamedLines attributes (string_bytes unnamed) × (reply ≡ Ok (Compared c unnamed))
-IsCompareReply attributes (Err cause) reply = reply ≡ Err cause
+  -- the changes between both sides are printed; or a side has no report, and nothing was written
+  abbrev pub PrintsSides : Format → DiffRequest → Result (Report × Report) Cause → O → Result Comparison Cause → O → Type 0
+  PrintsSides other d (Ok both) out answer wrote = PrintsChanges other d both.0 both.1 out answer wrote
+  PrintsSides other d (Err cause) out answer wrote = (answer ≡ Err cause) × (wrote ≡ out)
 
 module _ (may : SystemMay) {I O : Type 0} (may_give : I → ℕ → Answer → I → Type 0)
     (may_take : O → List ℕ → Result ℕ Failed → O → Type 0) (other : Format) (d : DiffRequest) where
-  -- by these options of walks, both sides were counted or read, and compared; or a side has no report, and nothing was written
+  -- by these options of walks, both sides were counted or read, and their changes were printed
   abbrev pub ComparesSides : Options → I → O → Reply → I → O → Type 0
   ComparesSides o input out reply read wrote =
-      ((cause : Cause) × GivesSides may may_give d.walk o (compared_needs d) d.old.now d.new.now input (Err cause) read
-      × (reply ≡ Err cause) × (wrote ≡ out))
-      ⊎ ((both : Report × Report) × GivesSides may may_give d.walk o (compared_needs d) d.old.now d.new.now input (Ok both) read
-      × ((answer : Result Comparison Cause) × IsCompareReply (attributes_of d.walk.filters.without.items) answer reply
-      × PrintsChanges may_take other d both.0 both.1 out answer wrote))
+      (sides : Result (Report × Report) Cause) × GivesSides may may_give d.walk o (compared_needs d) d.old.now d.new.now input sides read
+      × ((answer : Result Comparison Cause) × IsReplyWith Compared (attributes_of d.walk.filters.without.items) answer reply
+      × PrintsSides may_take other d sides out answer wrote)
 
-  -- both sides were compared, by the rules, the paths and the options of the command line
-  abbrev pub Compares : I → O → Reply → I → O → Type 0
-  Compares input out reply read wrote =
-      (text : Option (List ℕ)) × Excludes may.hold d.walk.filters.exclude_from text
-      × ((paths : Vec (Bor (List ℕ)) Global) × (between : I) × AnswersPathsOf may may_give d.walk input (Ok paths) between
-      × ((o : Options)
-      × IsAskedBy d.walk (compared_lists d) (filters_of d.walk.filters text (map (λ path. path.now) paths.items)) o
-      × ComparesSides o between out reply read wrote))
-
-  -- how a comparison with fitting options is answered: the sides were compared; or there were no rules or no memory, and nothing was read;
-  -- or there were no paths. In the last two cases nothing was written
+  -- how a comparison with fitting options is answered: the sides were compared as the command line requests; or the walks could not be
+  -- prepared, and nothing was written
   abbrev pub AnswersSides : I → O → Reply → I → O → Type 0
   AnswersSides input out reply read wrote =
-      Compares input out reply read wrote
-      ⊎ ((cause : Cause) × (reply ≡ Err cause) × (wrote ≡ out)
-      × (((LacksRules may.hold d.walk.filters cause ⊎ (cause ≡ Memory)) × (read ≡ input))
-      ⊎ AnswersPathsOf may may_give d.walk input (Err cause) read))
+      ((o : Options) × (between : I) × IsPrepared may may_give d.walk (compared_lists d) input o between
+      × ComparesSides o between out reply read wrote)
+      ⊎ ((cause : Cause) × IsUnprepared may may_give d.walk input cause read × (reply ≡ Err cause) × (wrote ≡ out))
 
   -- how a comparison is answered: both sides are compared; or an option chooses files but both sides are reports, or an allocation
   -- fails, and nothing was read or written

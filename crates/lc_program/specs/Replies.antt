@@ -3,7 +3,6 @@ use Rattle.std.specs.Prelude.{◌≡◌, ◌&&◌, Bool, true, false, String, Li
 use Rattle.std.specs.Global.{Global}
 use Rattle.lc_level.specs.FaultLines.{FaultLineModel}
 use Rattle.lc_arguments.specs.declared.request.Request.{Request, TheVariants.{Count, Diff, Sum}}
-use Rattle.lc_walk.specs.declared.report.Report.{Report}
 use Rattle.lc_paths.specs.declared.{check_fault.CheckFault.CheckFault, outcome.Outcome.Outcome}
 use Rattle.lc_io.specs.declared.printing.PrintFault.{PrintFault}
 use Rattle.lc_program.specs.{Causes.{check_cause, print_cause}, Unnamed.AreUnnamedLines}
@@ -53,11 +52,11 @@ ending_by false outcome.SomeFaults = SomeFaults
 abbrev pub ending_of : Request → Answered → Ending
 ending_of request answered = ending_by (has_failure request answered) (outcome_of answered)
 
--- the reply to a count: the report that was printed, and lines about some of these attributes
-abbrev pub IsRunReply : List (List ℕ) → Result Report Cause → Reply → Type 0
-IsRunReply attributes (Ok left) reply =
-    (unnamed : String Global) × AreUnnamedLines attributes (string_bytes unnamed) × (reply ≡ Ok (Counted left unnamed))
-IsRunReply attributes (Err cause) reply = reply ≡ Err cause
+-- the reply to a count or a comparison: what was printed, and lines about some of these attributes
+abbrev pub IsReplyWith : {A : Type 0} → (A → String Global → Answered) → List (List ℕ) → Result A Cause → Reply → Type 0
+IsReplyWith {A} answered attributes (Ok a) reply =
+    (unnamed : String Global) × AreUnnamedLines attributes (string_bytes unnamed) × (reply ≡ Ok (answered a unnamed))
+IsReplyWith {A} answered attributes (Err cause) reply = reply ≡ Err cause
 
 abbrev pub explained : Result Outcome CheckFault → Reply
 explained (Ok outcome) = Ok (Explained outcome)

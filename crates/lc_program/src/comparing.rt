@@ -4,9 +4,12 @@ ghost use Rattle.std.specs.Prelude.{◌≡◌, true, IfOk};
 ghost use Rattle.lc_arguments.specs.TableWords.{number_of};
 ghost use Rattle.lc_arguments.specs.Words.{IsDiffWithinLimits};
 ghost use Rattle.lc_changes.specs.ChangeSheets.{HasFilesFor};
-ghost use Rattle.lc_program.specs.Differences.{AnswersChanges, AnswersDiff, AnswersSides, IsChangesText, PrintsChanges};
+ghost use Rattle.lc_program.specs.Differences.{AnswersChanges, AnswersDiff, AnswersSides, IsChangesText, PrintsChanges, PrintsSides};
 ghost use Rattle.lc_program.specs.Differences.{change_options, change_order, compared_columns, compared_lists, compared_needs};
+ghost use Rattle.lc_program.specs.Replies.{IsReplyWith};
 ghost use Rattle.lc_program.specs.Systems.{may_of};
+ghost use Rattle.lc_program.specs.declared.answered.Answered.TheVariants.{Compared};
+ghost use Rattle.lc_level.specs.NamedAttributes.{noted};
 
 use crate::answered::Answered;
 use crate::cause::Cause;
@@ -148,6 +151,38 @@ fn print_kept<O: Sink>(
     Ok(Comparison { old, new, differ })
 }
 
+/// Prints the changes from one side to the other, if both sides have reports.
+fn print_sides<O: Sink>(
+    alloc: Global,
+    asked: &DiffRequest<'_>,
+    sides: Result<(Report, Report), Cause>,
+    format: Format,
+    out: &mut O,
+) -> Result<Comparison, Cause>
+    requires old_files { IfOk sides (λ both. HasFilesFor (change_options format asked.now) both.0.lists) }
+    requires new_files { IfOk sides (λ both. HasFilesFor (change_options format asked.now) both.1.lists) }
+    ensures { PrintsSides O.may_take format asked.now sides out.old result out.new }
+{
+    match sides {
+        Ok((old, new)) => print_kept(alloc, asked, old, new, format, out),
+        Err(cause) => Err(cause),
+    }
+}
+
+/// Makes the reply to a comparison, with lines about the attributes that no attribute file names.
+fn replied(
+    alloc: Global,
+    named: &NamedAttributes,
+    compared: Result<Comparison, Cause>,
+) -> Result<Answered, Cause>
+    ensures { IsReplyWith Compared (noted named.now) compared result }
+{
+    match compared {
+        Ok(compared) => Ok(Answered::Compared(compared, unnamed_lines(alloc, named))),
+        Err(cause) => Err(cause),
+    }
+}
+
 /// Counts or reads both sides of a comparison, and prints the changes from one side to the other.
 fn compare_sides<R: Threads + Wait + Sync + AllocGlobal, Y: System, S: Source, O: Sink>(
     rt: &R,
@@ -177,10 +212,9 @@ fn compare_sides<R: Threads + Wait + Sync + AllocGlobal, Y: System, S: Source, O
         options: &options,
         needs: compared_needs(asked),
     };
-    let (old, new) = both_sides(rt, system, (asked.old, asked.new), how, input)?;
-    let compared = print_kept(rt.alloc(), asked, old, new, format, out)?;
-    let unnamed = unnamed_lines(rt.alloc(), noted);
-    Ok(Answered::Compared(compared, unnamed))
+    let sides = both_sides(rt, system, (asked.old, asked.new), how, input);
+    let compared = print_sides(rt.alloc(), asked, sides, format, out);
+    replied(rt.alloc(), noted, compared)
 }
 
 /// Compares two directories or reports, and prints the changes. `format` is the format of the output if the command line names none.

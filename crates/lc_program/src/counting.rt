@@ -4,8 +4,11 @@ ghost use Rattle.std.specs.Prelude.{◌≡◌, ◌++◌, map, IfOk, OnOk};
 ghost use Rattle.lc_arguments.specs.Words.{IsCountWithinLimits};
 ghost use Rattle.lc_arguments.specs.TableWords.{options_in};
 ghost use Rattle.lc_program.specs.Counts.{AnswersApart, AnswersCount, Prints, after_spaces, lists_of, one_text};
+ghost use Rattle.lc_program.specs.Replies.{IsReplyWith};
 ghost use Rattle.lc_program.specs.Systems.{may_of};
 ghost use Rattle.lc_program.specs.WalkRequests.{IsAskedBy};
+ghost use Rattle.lc_program.specs.declared.answered.Answered.TheVariants.{Counted};
+ghost use Rattle.lc_level.specs.NamedAttributes.{noted};
 ghost use Rattle.lc_walk.specs.AllColumns.{all_columns};
 ghost use Rattle.lc_rows.specs.WalkedReports.{ListsFilesFor};
 ghost use Rattle.lc_walk.specs.WalkOptions.{AreWithinLimits};
@@ -113,6 +116,20 @@ fn print_found<R: Threads + Wait + Sync + AllocGlobal, Y: System, O: Sink>(
     Ok(report)
 }
 
+/// Makes the reply to a count, with lines about the attributes that no attribute file names.
+fn replied(
+    alloc: Global,
+    named: &NamedAttributes,
+    counted: Result<Report, Cause>,
+) -> Result<Answered, Cause>
+    ensures { IsReplyWith Counted (noted named.now) counted result }
+{
+    match counted {
+        Ok(report) => Ok(Answered::Counted(report, unnamed_lines(alloc, named))),
+        Err(cause) => Err(cause),
+    }
+}
+
 /// Counts directories, none of which lies in another, and prints the table.
 fn count_apart<R: Threads + Wait + Sync + AllocGlobal, Y: System, S: Source, O: Sink>(
     rt: &R,
@@ -137,9 +154,8 @@ fn count_apart<R: Threads + Wait + Sync + AllocGlobal, Y: System, S: Source, O: 
     let wanted = wanted_paths(rt.alloc(), only, asked.walk.only_from, end, listed)?;
     let filters = narrowed(rt.alloc(), filters, wanted.as_slice())?;
     let options = options_of(&asked.walk, lists_of(asked), &filters, noted);
-    let report = print_found(rt, system, asked, &options, format, out)?;
-    let unnamed = unnamed_lines(rt.alloc(), noted);
-    Ok(Answered::Counted(report, unnamed))
+    let counted = print_found(rt, system, asked, &options, format, out);
+    replied(rt.alloc(), noted, counted)
 }
 
 /// Counts directories and prints the table. `format` is the format of the table if the command line names none.
