@@ -58,7 +58,7 @@ pub record IsParsedAs (command : Subcommand) (words : List (List ℕ)) (found : 
   pub rows : rows_of found ≡ matches_of (command_app command) words
   pub numbers : AreReadBy (rules_in command options) found
 
--- the request of a command that clap found, or the values that it found request nothing
+-- if what clap read of numbers is within their limits: the request that the values make which clap found, or that these values make none
 abbrev pub AnswersIn : {A : Type 0} → Subcommand → (List Row → A → Type 0) → (List Row → Type 0) → Found → Result A ParseExit → Type 0
 AnswersIn {A} command Is No found =
     AnswersOr (λ (a : A). AreReadBy (rules_in command options) found → Is (rows_of found) a)

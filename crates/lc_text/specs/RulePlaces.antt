@@ -1,4 +1,4 @@
--- Where a rule is, as it is printed.
+-- Where a rule is: the file that has it, and its line.
 use Rattle.std.specs.{Prelude.{ℕ, ◌-◌, List, [], length, take, codes}, List.slice_index_or}
 use Rattle.lc_rules.specs.{IgnoreRules.text_of_line, RuleLines.lines_of as rule_lines_of, Verdicts.below}
 use Rattle.lc_rules.specs.declared.rule_source.RuleSource.{RuleSource, TheVariants.{ExcludeFrom, InfoExclude, Gitignore, CommandLine}}
