@@ -2,8 +2,7 @@
 use Rattle.std.proofs.Common.{◌≡◌, ◌∙◌, ◌<◌, Bool, true, false, cond, List, [], ◌∷◌, refl, sym, ap, subst, inl, inr, arith}
 use Rattle.std.proofs.lemmas.{Cmp.tied_itself, List.Elements.recursion_from_All}
 use Rattle.std.specs.{List.AllByRecursion, Ordering.{is_eq, ordering_reverse}, declared.cmp.Ordering.TheVariants.Less}
-use Rattle.lc_rows.proofs.SameKeys.{exact_keys}
-use Rattle.lc_walk.proofs.{Elements.In, Keys.{equal_if, key_cmp_total}, RowSums.sums_of_one, TakingPart.in_filter}
+use Rattle.lc_walk.proofs.{Elements.In, Keys.{equal_if, exact_keys, key_cmp_total}, RowSums.sums_of_one, TakingPart.in_filter}
 use Rattle.lc_walk.specs.{Key.{Key, key_cmp, same_key}, Tally.{CountedFile, IsTally}, TallyRows.{TallyRowModel, rows_with, sums_of_rows}}
 use Rattle.lc_walk.specs.declared.tally.sums.Sums.{Sums}
 use Rattle.lc_laws.proofs.OneOrder.{Rises, rises, risen_same}

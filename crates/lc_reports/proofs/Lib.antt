@@ -1,7 +1,6 @@
 pub mod AddedTotals
 pub mod AnyOrder
 pub mod Gathering
-pub mod KeyTies
 pub mod LineOrders
 pub mod NamedPaths
 pub mod NumbersInTurn

@@ -1,8 +1,7 @@
 -- Lines are in a total order, in which only a line itself ties with it.
 use Rattle.std.proofs.{Common.{◌≡◌, ℕ, ◌==◌, cond, List, [], ◌∷◌, refl, sym, ◌∙◌, ap, nat_cmp}, lemmas.Cmp.nat_cmp_total}
 use Rattle.std.proofs.lemmas.Cmp.{nat_list_cmp_total, on_total, then_total}
-use Rattle.std.specs.{Cmp.IsTotalOrder, FinMap.{nat_cmp-IsAntisymmetric, slice_cmp-IsAntisymmetric}, Ordering.ordering_then}
-use Rattle.std.specs.declared.cmp.Ordering.{Ordering, TheVariants.{Less, Equal, Greater}}
+use Rattle.std.specs.{Cmp.IsTotalOrder, FinMap.{nat_cmp-IsAntisymmetric, slice_cmp-IsAntisymmetric}, declared.cmp.Ordering.TheVariants.Equal}
 use Rattle.lc_level.specs.{FaultLines.FaultLineModel, FaultWords.fault_word, Level.{Reason, SkippedLineModel, named_git, by_rule}}
 use Rattle.lc_level.specs.{Level.{by_attribute, not_included, other_kind}, ReasonWords.reason_word, declared.fault_word.FaultWord.FaultWord}
 use Rattle.lc_level.specs.declared.fault_word.FaultWord.TheVariants.{Read, Name, Twice, Many, Long, Endless, Absent}
@@ -10,18 +9,9 @@ use Rattle.lc_reports.specs.LineOrder.{attribute_word, fault_cmp, kind_place, re
 use Rattle.lc_rules.specs.declared.rule_source.RuleSource.{RuleSource, TheVariants.{ExcludeFrom, InfoExclude, Gitignore, CommandLine}}
 use Rattle.lc_tree.specs.{ByteOrder.bytes_cmp, declared.entry.Kind.{Kind, TheVariants.{File, Dir, Other}}}
 use Rattle.lc_tree.specs.declared.entry.OtherKind.TheVariants.{Special, Mounted}
+use Rattle.lc_walk.proofs.Keys.{first_ties, then_ties}
 
 -- ---- what ties
-
-pub first_ties : (a b : Ordering) → ordering_then a b ≡ Equal → a ≡ Equal
-first_ties Less b e = absurd (cc)
-first_ties Equal b e = refl
-first_ties Greater b e = absurd (cc)
-
-pub then_ties : (a b : Ordering) → ordering_then a b ≡ Equal → b ≡ Equal
-then_ties Less b e = absurd (cc)
-then_ties Equal b e = e
-then_ties Greater b e = absurd (cc)
 
 pub bytes_same : (xs ys : List ℕ) → bytes_cmp xs ys ≡ Equal → xs ≡ ys
 bytes_same = slice_cmp-IsAntisymmetric nat_cmp-IsAntisymmetric

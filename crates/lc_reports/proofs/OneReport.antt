@@ -7,10 +7,10 @@ use Rattle.std.proofs.lemmas.Map.{Keys.{sorted_head, sorted_tail}, Views.{Contai
 use Rattle.std.specs.{Cmp.{IsTotalOrder, both_ways}, FinMap.Entries.{below_all, find, is_sorted, same_entries}, List.AllByRecursion}
 use Rattle.std.specs.{List.{list_any, Sorted.IsStrictlySortedBy}, Ordering.{eq_by_cmp, is_eq, is_lt}, declared.cmp.Ordering.Ordering}
 use Rattle.std.specs.declared.cmp.Ordering.TheVariants.{Less, Equal}
-use Rattle.lc_reports.proofs.{KeyTies.key_ties, LineOrders.{fault_cmp_total, fault_ties, skipped_cmp_total, skipped_ties}}
+use Rattle.lc_reports.proofs.LineOrders.{fault_cmp_total, fault_ties, skipped_cmp_total, skipped_ties}
 use Rattle.lc_reports.specs.{Joined.{IsUnited, all_faults, all_files, all_rows, all_skipped, if_wanted}, Laws.{HasFile, JoinOnceLaw}}
 use Rattle.lc_reports.specs.LineOrder.{skipped_cmp}
-use Rattle.lc_walk.proofs.{Keys.{equal_if, key_cmp_total}, RowSums.sums_of_one}
+use Rattle.lc_walk.proofs.{Keys.{equal_if, exact_keys, key_cmp_total}, RowSums.sums_of_one}
 use Rattle.lc_walk.specs.{Key.{Key, key_cmp, same_key}, TallyRows.{AddsUp, IsInOrder, TallyRowModel, row_with, rows_with, sums_of_rows}}
 use Rattle.lc_walk.specs.declared.{options.ReportLists.ReportLists, tally.sums.Sums.Sums}
 use Rattle.lc_walk.proofs.Classes.{same_classes}
@@ -115,7 +115,7 @@ found_row q (r ∷ rs) order filled = ⊎_elim
   where
     only : same_key q r.key ≡ true → sums_of_rows (rows_with q (r ∷ rs)) ≡ r.sums
     only t =
-        let none = subst (λ k. rows_with k rs ≡ []) (sym (key_ties q r.key (equal_if (key_cmp q r.key) t)))
+        let none = subst (λ k. rows_with k rs ≡ []) (sym (exact_keys q r.key (equal_if (key_cmp q r.key) t)))
         (others r.key rs (sorted_head key_cmp r.key (map (λ (x : TallyRowModel). x.key) rs) order)) in
         ap sums_of_rows (cond-true (same_key q r.key) (r ∷ rows_with q rs) (rows_with q rs) t ∙ ap (λ l. r ∷ l) none) ∙ sums_of_one r
 
@@ -126,7 +126,7 @@ one_sum rs us vs filled a b =
     ∙ sym (found_row q vs b.order (b.same.filled filled)) in
     let in_key_order = in_order key_cmp (λ (r : TallyRowModel). r.key) (λ (r : TallyRowModel). r.sums) in
     let again = back key_cmp (λ (r : TallyRowModel). r.key) (λ (r : TallyRowModel). r.sums) (λ e. row_with e.0 e.1) (λ r. refl) in
-    let same = same_entries key_cmp key_cmp_total key_ties (keyed us) (keyed vs) (in_key_order us a.order) (in_key_order vs b.order)
+    let same = same_entries key_cmp key_cmp_total exact_keys (keyed us) (keyed vs) (in_key_order us a.order) (in_key_order vs b.order)
     alike in
     sym (again us) ∙ ap (map (λ (e : Key × Sums). row_with e.0 e.1)) same ∙ again vs
 

@@ -5,12 +5,11 @@ use Rattle.std.specs.List.Sorted.{IsStrictlySortedBy}
 use Rattle.lc_level.specs.Level.{FileLineModel}
 use Rattle.lc_sheet.specs.Conditions.{ConditionModel, TestModel, compared, is_number, is_on_number, meets, needs_files, none_of, one_of}
 use Rattle.lc_sheet.specs.{Values.{ValueModel, blank, path}, declared.column.Column.Column}
-use Rattle.lc_walk.proofs.{Classes.both_are_all, Keys.equal_if, ReportTotals.{filter-map, tally_sums}}
+use Rattle.lc_walk.proofs.{Classes.both_are_all, Keys.{equal_if, exact_keys}, ReportTotals.{filter-map, tally_sums}}
 use Rattle.lc_walk.specs.{Key.{Key, key_cmp, same_key}, ReportTotals.{TotalsAddUp, counted_line}, Sums.{no_files, plus}, Tally.CountedFile}
 use Rattle.lc_walk.specs.{Tally.{IsTally, files_with, key_of, sums_of_files}, TallyRows.{TallyRowModel, row_with, rows_with, sums_of_rows}}
 use Rattle.lc_walk.specs.{Classes.classes_of, declared.tally.classes.ClassSums.ClassSums}
 use Rattle.lc_walk.specs.declared.{options.ReportLists.ReportLists, report.Report.Report}
-use Rattle.lc_rows.proofs.SameKeys.{exact_keys}
 use Rattle.lc_rows.specs.Kept.{AreKeptRows, IsPart, file_meets, holds_all, kept_totals, row_meets, value_of_file, value_of_row}
 use Rattle.lc_rows.specs.KeptLaws.{KeptTotalsLaw}
 use Rattle.lc_sheet.specs.declared.column.Column.TheVariants as column
