@@ -2,6 +2,7 @@
 use Rattle.std.specs.Prelude.{◌&&◌, ◌||◌, ℕ, Bool, true, false, not, is_some, length, nat_lt, List, Option, Some, None, codes}
 use Rattle.std.specs.{Option.option_map_or, Str.bytes_eq}
 use Rattle.clap.specs.Walk.{is_empty}
+use Rattle.lc_sheet.specs.Keys.{are_all}
 use Rattle.lc_sheet.specs.declared.table_options.{Columns.Columns, Format.TheVariants.{Table, Csv, Markdown}}
 use Rattle.lc_sheet.specs.declared.table_options.Output.{Output, TheVariants.{Text, Picture}}
 use Rattle.lc_sheet.specs.declared.table_options.Order.{Order, TheVariants.Name}
@@ -33,7 +34,7 @@ is_by_name _ = false
 -- `--by` names a different set of columns than ext, text and eol, the columns of a report's rows
 abbrev pub narrows : Option Columns → Bool
 narrows None = false
-narrows (Some by) = is_some by.dir || not (by.ext && by.text && by.eol)
+narrows (Some by) = not (are_all by)
 
 -- a table lists files or skipped entries, is limited by `--top`, or has other columns than a report's rows
 abbrev pub asks_for_rows : TableRequest → Bool → Bool

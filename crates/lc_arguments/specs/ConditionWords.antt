@@ -4,7 +4,8 @@ use Rattle.std.specs.{Prelude.{drop, codes, Option, Some, None}, List.{filter_ma
 use Rattle.lc_glob.specs.{Bytes.slash, Pieces.{is_byte, pieces_of}}
 use Rattle.lc_rules.specs.Bytes.{equals_sign, space}
 use Rattle.lc_sheet.specs.{ColumnWords.column_name, Conditions.{ConditionModel, comma, compared, none_of, one_of}}
-use Rattle.lc_sheet.specs.declared.column.{Column.{Column, TheVariants.{Ext, Text, Eol, Number}}, Number.TheVariants.{Lines, Blank, Bytes}}
+use Rattle.lc_sheet.specs.declared.column.{Column.{Column, TheVariants.{Key, Number}}, Number.TheVariants.{Lines, Blank, Bytes}}
+use Rattle.lc_sheet.specs.declared.key.Key.TheVariants.{Ext, Text, Eol}
 use Rattle.lc_sheet.specs.declared.condition.Comparison.{Comparison, TheVariants.{Less, AtMost, Equal, Unequal, AtLeast, Greater}}
 
 abbrev pub exclamation_mark : ℕ
@@ -31,7 +32,7 @@ without_spaces (b ∷ bs) = cond (b == space) (without_spaces bs) (b ∷ bs)
 
 -- the columns that a condition may be on
 abbrev pub condition_columns : List Column
-condition_columns = Ext ∷ Text ∷ Eol ∷ Number Lines ∷ Number Blank ∷ Number Bytes ∷ []
+condition_columns = Key Ext ∷ Key Text ∷ Key Eol ∷ Number Lines ∷ Number Blank ∷ Number Bytes ∷ []
 
 abbrev pub or_column : Column → Option (List ℕ) → Option (Column × List ℕ) → Option (Column × List ℕ)
 or_column column (Some rest) other = Some (column, rest)
@@ -74,11 +75,11 @@ is_after_dot (Some (b ∷ bs)) = not (list_any (is_byte dot) (b ∷ bs)) && not 
 
 -- a text can be a value of a column; `-` means no extension, or no attribute text
 abbrev pub can_have : Column → List ℕ → Bool
-can_have Ext text = bytes_eq text (codes "-") || is_after_dot (after_front (dot ∷ []) text)
-can_have Text text =
+can_have (Key Ext) text = bytes_eq text (codes "-") || is_after_dot (after_front (dot ∷ []) text)
+can_have (Key Text) text =
     bytes_eq text (codes "set") || bytes_eq text (codes "unset") || bytes_eq text (codes "auto") || bytes_eq text (codes "other")
     || bytes_eq text (codes "-")
-can_have Eol text =
+can_have (Key Eol) text =
     bytes_eq text (codes "none") || bytes_eq text (codes "lf") || bytes_eq text (codes "crlf") || bytes_eq text (codes "cr")
     || bytes_eq text (codes "mixed") || bytes_eq text (codes "nul")
 can_have other text = false
@@ -145,7 +146,7 @@ conditions_of texts = filter_map condition_of texts
 
 -- the condition of files that are not binary
 abbrev pub not_binary : ConditionModel
-not_binary = record { column = Eol; test = none_of (codes "nul" ∷ []) }
+not_binary = record { column = Key Eol; test = none_of (codes "nul" ∷ []) }
 
 -- the conditions that texts write, and, if `--no-binary` was typed, the condition that a file is not binary
 abbrev pub all_conditions : List (List ℕ) → Bool → List ConditionModel

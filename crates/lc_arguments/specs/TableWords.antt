@@ -1,7 +1,8 @@
 -- The table that the words of a command line request.
-use Rattle.std.specs.Prelude.{◌≡◌, ◌||◌, ℕ, ◌+◌, Bool, true, false, cond, List, length, filter, Option, Some, None, option_map, unwrap_or}
-use Rattle.std.specs.{Prelude.{is_some, codes, IfSome}, Str.bytes_eq}
+use Rattle.std.specs.Prelude.{◌≡◌, ◌||◌, ℕ, Bool, true, false, cond, List, length, filter, Option, Some, None, option_map, unwrap_or}
+use Rattle.std.specs.{Prelude.{is_some, codes, IfSome}, List.{list_all, list_any}, Str.bytes_eq}
 use Rattle.lc_glob.specs.Pieces.{pieces_of}
+use Rattle.lc_sheet.specs.{Keys.{has_key, key_name, keys}, declared.key.Key.Key}
 use Rattle.lc_sheet.specs.declared.table_options.{Columns.Columns, Format.{Format, TheVariants.{Tsv, Table, Json, Csv, Markdown}}}
 use Rattle.lc_sheet.specs.declared.table_options.Output.{Output, TheVariants.{Text, Picture}}
 use Rattle.lc_sheet.specs.declared.table_options.{Order.{Order, TheVariants.{Name, Largest}}, TableOptions.TableOptions}
@@ -39,17 +40,15 @@ abbrev pub once_if : Bool → ℕ
 once_if true = 1
 once_if false = 0
 
-abbrev pub how_many : Columns → ℕ
-how_many c = once_if (is_some c.dir) + once_if c.ext + once_if c.text + once_if c.eol
+-- whether a name is that of a key
+abbrev pub is_key_name : List ℕ → Bool
+is_key_name name = list_any (λ k. bytes_eq (key_name k) name) keys
 
--- the names are those of these columns, each once, and no others; directories are cut to `depth` segments
+-- the names are those of the keys of these columns, each once, and no others; directories are cut to `depth` segments
 pub record AreNamesOf (names : List (List ℕ)) (depth : ℕ) (c : Columns) : Type 0 where
-  pub dir : how_often (codes "dir") names ≡ once_if (is_some c.dir)
+  pub each : (k : Key) → how_often (key_name k) names ≡ once_if (has_key c k)
   pub cut : IfSome c.dir (λ segments. segments ≡ depth)
-  pub ext : how_often (codes "ext") names ≡ once_if c.ext
-  pub text : how_often (codes "text") names ≡ once_if c.text
-  pub eol : how_often (codes "eol") names ≡ once_if c.eol
-  pub no_others : length names ≡ how_many c
+  pub no_others : list_all is_key_name names ≡ true
 
 -- a text has the names of these columns, with commas between them
 abbrev pub IsColumnsText : List ℕ → ℕ → Columns → Type 0

@@ -34,7 +34,7 @@ fn narrows(by: Option<Columns>) -> bool
 {
     match by {
         None => false,
-        Some(by) => by.dir.is_some() || !(by.ext && by.text && by.eol),
+        Some(by) => !by.are_all(),
     }
 }
 

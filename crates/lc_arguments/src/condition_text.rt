@@ -7,7 +7,7 @@ ghost use Rattle.lc_arguments.specs.ConditionWords.{condition_with, is_after_dot
 ghost use Rattle.lc_arguments.specs.ConditionWords.{digits_from, is_digit, with_digit, without_spaces};
 
 use lc_glob::cut_at_first;
-use lc_sheet::{Column, Comparison, Condition, Number, Test};
+use lc_sheet::{Column, Comparison, Condition, Key, Number, Test};
 
 /// Returns the rest of a text after `front`, if the text begins with `front`.
 fn after_front<'w>(front: &[u8], text: &'w [u8]) -> Option<&'w [u8]>
@@ -32,9 +32,9 @@ fn condition_columns() -> &'static [Column]
     ensures { result.now ≡ condition_columns }
 {
     &[
-        Column::Ext,
-        Column::Text,
-        Column::Eol,
+        Column::Key(Key::Ext),
+        Column::Key(Key::Text),
+        Column::Key(Key::Eol),
         Column::Number(Number::Lines),
         Column::Number(Number::Blank),
         Column::Number(Number::Bytes),
@@ -102,15 +102,15 @@ fn can_have(column: Column, text: &[u8]) -> bool
     ensures { result ≡ can_have column text.now }
 {
     match column {
-        Column::Ext => text == b"-".as_slice() || is_after_dot(after_front(b".", text)),
-        Column::Text => {
+        Column::Key(Key::Ext) => text == b"-".as_slice() || is_after_dot(after_front(b".", text)),
+        Column::Key(Key::Text) => {
             text == b"set".as_slice()
                 || text == b"unset".as_slice()
                 || text == b"auto".as_slice()
                 || text == b"other".as_slice()
                 || text == b"-".as_slice()
         }
-        Column::Eol => {
+        Column::Key(Key::Eol) => {
             text == b"none".as_slice()
                 || text == b"lf".as_slice()
                 || text == b"crlf".as_slice()
@@ -226,13 +226,13 @@ fn is_operator_byte(byte: u8) -> bool {
 /// Returns the end of a usage error about a column: the operators and values that a condition on the column can have.
 fn values_of(column: Column) -> &'static str {
     match column {
-        Column::Ext => {
+        Column::Key(Key::Ext) => {
             ": ext takes '=' or '!=', and extensions such as .c, separated by commas; - is none"
         }
-        Column::Text => {
+        Column::Key(Key::Text) => {
             ": text takes '=' or '!=', and set, unset, auto, other or -, separated by commas"
         }
-        Column::Eol => {
+        Column::Key(Key::Eol) => {
             ": eol takes '=' or '!=', and none, lf, crlf, cr, mixed or nul, separated by commas"
         }
         _ => ": a number has digits alone, and is below 18446744073709551616",

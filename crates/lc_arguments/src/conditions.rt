@@ -10,7 +10,7 @@ use crate::condition_text::condition_of;
 use crate::repeated::{Repeated, values_in};
 use crate::request::ParseExit;
 use clap::ArgMatches;
-use lc_sheet::{Column, Condition, Test};
+use lc_sheet::{Column, Condition, Key, Test};
 use std::alloc::{AllocError, Global};
 
 /// Appends the condition of a text, if the text is a condition.
@@ -28,7 +28,7 @@ fn not_binary<'w>() -> Condition<'w>
     ensures { result ≡ not_binary }
 {
     Condition {
-        column: Column::Eol,
+        column: Column::Key(Key::Eol),
         test: Test::NoneOf(b"nul"),
     }
 }

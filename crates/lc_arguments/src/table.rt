@@ -1,21 +1,22 @@
 //! The options of the table that a command prints, such as `--format`, `--by` and `--sort`.
 
-ghost use Rattle.std.specs.Prelude.{◌≡◌, ◌≢◌, MatchOption, option_map};
+ghost use Rattle.std.specs.Prelude.{◌≡◌, ◌≢◌, false, MatchOption, option_map};
 ghost use Rattle.clap.specs.Matches.{found_of};
 ghost use Rattle.clap.specs.Walk.{rows_of};
 ghost use Rattle.lc_sheet.specs.declared.table_options.Columns.{Columns as ColumnsModel};
 ghost use Rattle.lc_sheet.specs.declared.table_options.Order.{Order as OrderModel};
 ghost use Rattle.lc_sheet.specs.declared.table_options.Output.{Output as OutputModel};
+ghost use Rattle.lc_sheet.specs.Keys.{key_name};
 ghost use Rattle.lc_arguments.specs.Combinations.{is_picture};
 ghost use Rattle.lc_arguments.specs.Explained.{AnswersColumns, AnswersFormat, AnswersSort, AnswersTable, AnswersTableIn, IsRefusal};
-ghost use Rattle.lc_arguments.specs.TableWords.{IsColumnsText, default_order, is_for_reading, number_of, options_in};
-ghost use Rattle.lc_arguments.specs.TableWords.{order_in, order_word, output_in, output_word};
+ghost use Rattle.lc_arguments.specs.TableWords.{IsColumnsText, default_order, is_for_reading, is_key_name, number_of};
+ghost use Rattle.lc_arguments.specs.TableWords.{options_in, order_in, order_word, output_in, output_word};
 
 use crate::numbers::Cuts;
 use crate::request::{ParseExit, refused, unfit};
 use clap::ArgMatches;
 use lc_glob::cut_at_first;
-use lc_sheet::{Columns, Format, Number, Order, Output, TableOptions};
+use lc_sheet::{Columns, Format, KEYS, Key, Number, Order, Output, TableOptions};
 use std::alloc::Global;
 
 /// The table that a command prints, as in `--format table --by ext --sort lines`.
@@ -133,31 +134,32 @@ fn order_named(name: &str) -> Option<Order>
     }
 }
 
+/// Returns the key that is named.
+fn key_named(name: &[u8]) -> Option<Key>
+    ensures { MatchOption result (is_key_name name.now ≡ false) (λ key. key_name key ≡ name.now) }
+{
+    for key in &KEYS {
+        if key.name().as_bytes() == name {
+            return Some(*key);
+        }
+    }
+    None
+}
+
 /// Reads the names of columns, separated by commas, each at most once. Directories are cut after `depth` names.
 fn columns_named(names: &str, depth: u32) -> Option<Columns>
     ensures { MatchOption result ((c : ColumnsModel) → ¬ IsColumnsText names.entry.now depth c)
         (λ c. IsColumnsText names.entry.now depth c) }
 {
-    let mut columns = Columns {
-        dir: None,
-        ext: false,
-        text: false,
-        eol: false,
-    };
+    let mut columns = Columns::NONE;
     let mut left = Some(names.as_bytes());
     'names: while let Some(rest) = left {
         let (name, others) = cut_at_first(b',', rest);
-        if name == b"dir".as_slice() && columns.dir.is_none() {
-            columns.dir = Some(depth);
-        } else if name == b"ext".as_slice() && !columns.ext {
-            columns.ext = true;
-        } else if name == b"text".as_slice() && !columns.text {
-            columns.text = true;
-        } else if name == b"eol".as_slice() && !columns.eol {
-            columns.eol = true;
-        } else {
+        let key = key_named(name)?;
+        if columns.has(key) {
             return None;
         }
+        columns = columns.with(key, depth);
         left = others;
     }
     Some(columns)

@@ -4,7 +4,7 @@ use lc_arguments::{
     CheckRequest, CountRequest, DiffRequest, ExplainRequest, FilterRequest, ParseExit, Request,
     SumRequest, TableRequest, WalkRequest,
 };
-use lc_sheet::Columns;
+use lc_sheet::{Columns, REPORT_KEYS};
 use std::alloc::{AllocError, Global};
 use std::process::Abort;
 
@@ -40,9 +40,9 @@ fn push_columns(text: &mut String, by: Option<Columns>) -> Result<(), AllocError
     if let Some(depth) = by.dir {
         write!(text, " dir to {depth}")?;
     }
-    for (kept, name) in [(by.ext, " ext"), (by.text, " text"), (by.eol, " eol")] {
-        if kept {
-            text.push_str(name)?;
+    for key in REPORT_KEYS {
+        if by.has(key) {
+            write!(text, " {}", key.name())?;
         }
     }
     Ok(())

@@ -6,7 +6,8 @@ use Rattle.lc_changes.specs.{Changes.{ChangedRowModel, changed_key, sums_at}, La
 use Rattle.lc_level.specs.Level.{FileLineModel}
 use Rattle.lc_rows.proofs.{Folding.{AreAlike, alike_permuted, alike_sums}, RowLaws.moved}
 use Rattle.lc_rows.specs.{RowKeys.{RowKey, ShownRowModel, has_within, rows_within, same_row_key, sums_of_shown}, ShownRows.AreAddedUp}
-use Rattle.lc_rows.specs.ShownRows.{AreShown, keeps_all, parts_of}
+use Rattle.lc_rows.specs.ShownRows.{AreShown, parts_of}
+use Rattle.lc_sheet.specs.Keys.{are_all}
 use Rattle.lc_sheet.specs.declared.{column.Number.Number, table_options.Columns.Columns}
 use Rattle.lc_walk.specs.TallyRows.{TallyRowModel}
 
@@ -29,12 +30,12 @@ module _ (by : Columns) (sort : Option Number) (rs : List TallyRowModel) (fs : L
   pub shown_sums : sums_of_shown (rows_within keys (parts_of by rs fs)) ≡ sums_of_shown (rows_within keys shown)
   shown_sums =
       sym (alike_sums are.0 shown (alike_permuted are.0 shown (moved sort are.0 shown are.2)) keys
-      ∙ summed_sums (keeps_all by) (parts_of by rs fs) are.0 are.1 keys)
+      ∙ summed_sums (are_all by) (parts_of by rs fs) are.0 are.1 keys)
 
   pub shown_keys : has_within keys (parts_of by rs fs) ≡ has_within keys shown
   shown_keys =
       let alike : AreAlike are.0 shown = alike_permuted are.0 shown (moved sort are.0 shown are.2) in
-      sym (alike.present keys ∙ summed_keys (keeps_all by) (parts_of by rs fs) are.0 are.1 keys)
+      sym (alike.present keys ∙ summed_keys (are_all by) (parts_of by rs fs) are.0 are.1 keys)
 
 or_true : (a b : Bool) → a ≡ true → (a || b) ≡ true
 or_true a b is = ap (λ c. c || b) is

@@ -3,7 +3,7 @@ use Rattle.std.specs.Prelude.{ℕ, List, codes, Option, Some, None}
 use Rattle.lc_changes.specs.{Changes.ChangedRowModel, FileChanges.{FileChangeModel, either_file, side_number}}
 use Rattle.lc_level.specs.Level.{FileLineModel}
 use Rattle.lc_rows.specs.{Kinds.{NamedSumsModel, file_value, row_value, sums_value}, ShownRows.number_in}
-use Rattle.lc_sheet.specs.Values.{ValueModel, missing, blank, word, number, difference}
+use Rattle.lc_sheet.specs.{ColumnWords.compared_column, Values.{ValueModel, missing, blank, word, number, difference}}
 use Rattle.lc_sheet.specs.declared.{column.{Column.Column, Compared.Compared}, form.Form.Form}
 use Rattle.lc_walk.specs.declared.tally.sums.Sums.{Sums}
 use Rattle.lc_sheet.specs.declared.column.Column.TheVariants as column
@@ -32,16 +32,10 @@ changed_sums_value form s other = sums_value form s.new_sums other
 
 -- ---- files
 
--- the column of a single report that has the compared value
-abbrev pub column_of : Compared → Column
-column_of compared.Text = column.Text
-column_of compared.Eol = column.Eol
-column_of (compared.Number n) = column.Number n
-
 -- the compared value of a file in one report; it is `missing` if the report lacks the file
 abbrev pub side_value : Form → Option FileLineModel → Compared → ValueModel
 side_value form None compared = missing
-side_value form (Some f) compared = file_value form f (column_of compared)
+side_value form (Some f) compared = file_value form f (compared_column compared)
 
 -- a value of a file that does not depend on the report, such as its extension
 abbrev pub shared_value : Form → Option FileLineModel → Column → ValueModel

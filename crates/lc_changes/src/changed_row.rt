@@ -32,10 +32,7 @@ fn with_sums<'a>(row: &ShownRow<'a>, sums: Sums) -> ShownRow<'a>
     ensures { result ≡ row_with (row_key row.now) sums }
 {
     ShownRow {
-        directory: row.directory,
-        extension: row.extension,
-        text: row.text,
-        eol: row.eol,
+        key: row.key.copied(),
         sums,
     }
 }

@@ -4,7 +4,7 @@ ghost use Rattle.std.specs.Prelude.{◌≡◌, IfOk};
 ghost use Rattle.lc_changes.specs.ChangeColumns.{changed_columns, changed_numbers, changed_sums_columns, file_change_columns};
 
 use lc_rows::{keeps_columns, push_if, push_keys};
-use lc_sheet::{Column, Columns, Compared, Format, Number};
+use lc_sheet::{Column, Columns, Compared, Format, Key, Number};
 use std::alloc::{AllocError, Global};
 
 /// Each number of the old report, followed by the same number of the new report.
@@ -45,10 +45,10 @@ const NUMBERS_WITH_CHANGES: [Column; 8] = [
 
 /// Each value of a file in the old report, followed by the same value in the new report.
 const VALUES_IN_TURN: [Column; 10] = [
-    Column::Old(Compared::Text),
-    Column::New(Compared::Text),
-    Column::Old(Compared::Eol),
-    Column::New(Compared::Eol),
+    Column::Old(Compared::Key(Key::Text)),
+    Column::New(Compared::Key(Key::Text)),
+    Column::Old(Compared::Key(Key::Eol)),
+    Column::New(Compared::Key(Key::Eol)),
     Column::Old(Compared::Number(Number::Lines)),
     Column::New(Compared::Number(Number::Lines)),
     Column::Old(Compared::Number(Number::Blank)),
@@ -59,13 +59,13 @@ const VALUES_IN_TURN: [Column; 10] = [
 
 /// The values of a file in the old report, and then its values in the new report.
 const VALUES_BY_REPORT: [Column; 10] = [
-    Column::Old(Compared::Text),
-    Column::Old(Compared::Eol),
+    Column::Old(Compared::Key(Key::Text)),
+    Column::Old(Compared::Key(Key::Eol)),
     Column::Old(Compared::Number(Number::Lines)),
     Column::Old(Compared::Number(Number::Blank)),
     Column::Old(Compared::Number(Number::Bytes)),
-    Column::New(Compared::Text),
-    Column::New(Compared::Eol),
+    Column::New(Compared::Key(Key::Text)),
+    Column::New(Compared::Key(Key::Eol)),
     Column::New(Compared::Number(Number::Lines)),
     Column::New(Compared::Number(Number::Blank)),
     Column::New(Compared::Number(Number::Bytes)),
@@ -130,14 +130,14 @@ pub(crate) fn file_change_columns(
         }
         Format::Csv => {
             columns.extend_from_slice(&[Column::Path, Column::Change])?;
-            push_if(&mut columns, by.dir.is_some(), Column::Dir)?;
-            columns.push(Column::Ext)?;
+            push_if(&mut columns, by.dir.is_some(), Column::Key(Key::Dir))?;
+            columns.push(Column::Key(Key::Ext))?;
             columns.extend_from_slice(&VALUES_IN_TURN)?;
         }
         Format::Json => {
             columns.push(Column::Path)?;
-            push_if(&mut columns, by.dir.is_some(), Column::Dir)?;
-            columns.extend_from_slice(&[Column::Ext, Column::Change])?;
+            push_if(&mut columns, by.dir.is_some(), Column::Key(Key::Dir))?;
+            columns.extend_from_slice(&[Column::Key(Key::Ext), Column::Change])?;
             columns.extend_from_slice(&VALUES_BY_REPORT)?;
         }
         Format::Table | Format::Markdown => columns.extend_from_slice(&READ_FILES)?,

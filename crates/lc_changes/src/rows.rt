@@ -30,7 +30,7 @@ fn next_row<'a>(
         (Some((old, _)), None) => Some((ChangedRow::removed(old), true, false)),
         (None, Some((new, _))) => Some((ChangedRow::added(new), false, true)),
         (Some((old, _)), Some((new, _))) => {
-            Some(match old.key().compare(&new.key()) {
+            Some(match old.key.compare(&new.key) {
                 Ordering::Less => (ChangedRow::removed(old), true, false),
                 Ordering::Equal => (ChangedRow::both(old, new), true, true),
                 Ordering::Greater => (ChangedRow::added(new), false, true),

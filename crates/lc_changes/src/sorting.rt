@@ -14,7 +14,7 @@ fn compare_rows(by: Number, a: &ChangedRow<'_>, b: &ChangedRow<'_>) -> Ordering
     ensures { result ≡ change_cmp by a.now b.now }
 {
     match b.change(by).cmp(&a.change(by)) {
-        Ordering::Equal => a.new_row.key().compare(&b.new_row.key()),
+        Ordering::Equal => a.new_row.key.compare(&b.new_row.key),
         unequal => unequal,
     }
 }

@@ -72,11 +72,9 @@ heading_end : (c : Column) → is_open (side_of c ∷ []) ≡ true → HasEnd (h
 heading_end column.Path e = ((λ e. absurd (cc)), refl)
 heading_end column.Entry e = ((λ e. absurd (cc)), refl)
 heading_end column.Site e = ((λ e. absurd (cc)), refl)
-heading_end (column.Old compared.Text) e = absurd (cc)
-heading_end (column.Old compared.Eol) e = absurd (cc)
+heading_end (column.Old (compared.Key k)) e = absurd (cc)
 heading_end (column.Old (compared.Number n)) e = absurd (cc)
-heading_end (column.New compared.Text) e = absurd (cc)
-heading_end (column.New compared.Eol) e = absurd (cc)
+heading_end (column.New (compared.Key k)) e = absurd (cc)
 heading_end (column.New (compared.Number n)) e = absurd (cc)
 heading_end other e = absurd (cc)
 

@@ -1,13 +1,12 @@
 -- The JSON values of lines of a sheet.
 use Rattle.std.specs.Prelude.{ℕ, Bool, true, false, ◌&&◌, if◌then◌else◌, List, [], ◌∷◌, ◌++◌, codes, Option, Some, None}
 use Rattle.json.specs.Json.{Json, null, string}
-use Rattle.lc_sheet.specs.{ColumnWords.column_name, Values.{ValueModel, missing, summed, blank, word, name, path, number, share, bar}}
-use Rattle.lc_sheet.specs.{Values.difference, declared.column.{Column.Column, Compared.Compared}}
+use Rattle.lc_sheet.specs.{ColumnWords.{column_name, compared_column}, Values.{ValueModel, missing, summed, blank, word, name, path, number, share, bar}}
+use Rattle.lc_sheet.specs.{Values.difference, declared.column.Column.Column}
 use Rattle.lc_text.specs.Names.{named}
 use Rattle.lc_formats.specs.{JsonText.{Member, bytes_member, integer, object_with}, declared.json_sides.Part.Part}
 use Rattle.lc_formats.specs.declared.json_sides.Part.TheVariants.{Own, Old, New}
 use Rattle.lc_sheet.specs.declared.column.Column.TheVariants as column
-use Rattle.lc_sheet.specs.declared.column.Compared.TheVariants as compared
 
 -- ---- a line of one report
 
@@ -34,12 +33,6 @@ abbrev pub line_object : List Column → List ValueModel → Json
 line_object columns values = object_with (line_members columns values)
 
 -- ---- the parts of a line of two reports: what it has of neither report, of the old one, and of the new one
-
--- the column whose name a compared value has in the objects `old` and `new`
-abbrev pub compared_column : Compared → Column
-compared_column compared.Text = column.Text
-compared_column compared.Eol = column.Eol
-compared_column (compared.Number n) = column.Number n
 
 -- the column whose name a value gets in a part of a line, if the value belongs to this part; first for the part of neither report
 abbrev pub own_column : Column → Option Column

@@ -4,13 +4,13 @@ ghost use Rattle.std.specs.Prelude.{◌≡◌, ◌++◌, OnOk};
 ghost use Rattle.json.specs.Tree.{json_tokens};
 ghost use Rattle.lc_sheet.specs.Sheets.{line_of};
 ghost use Rattle.lc_sheet.specs.Values.{value_model};
-ghost use Rattle.lc_formats.specs.JsonLines.{change_object, column_in, compared_column, is_missing, lacks, lacks_in, members_in};
+ghost use Rattle.lc_formats.specs.JsonLines.{change_object, column_in, is_missing, lacks, lacks_in, members_in};
 ghost use Rattle.lc_formats.specs.JsonLines.{part_members, side_value};
 ghost use Rattle.lc_formats.specs.JsonTokens.{members_tokens_of};
 
 use crate::json_values::write_value;
 use crate::json_writer::JsonText;
-use lc_sheet::{Column, Compared, Form, Lines, Value};
+use lc_sheet::{Column, Form, Lines, Value};
 use std::alloc::AllocError;
 
 /// One of the three parts of the JSON object for a line of a comparison.
@@ -24,17 +24,6 @@ enum Part {
     New,
 }
 
-/// Returns the column whose name a compared value has in the objects `old` and `new`.
-fn compared_column(compared: Compared) -> Column
-    ensures { result ≡ compared_column compared }
-{
-    match compared {
-        Compared::Text => Column::Text,
-        Compared::Eol => Column::Eol,
-        Compared::Number(number) => Column::Number(number),
-    }
-}
-
 impl Part {
     /// Returns the column whose name the value in `column` gets in this part, or `None` if the value belongs to another part.
     fn column(self, column: Column) -> Option<Column>
@@ -43,8 +32,8 @@ impl Part {
         match (self, column) {
             (Part::Own, Column::Old(_) | Column::New(_)) => None,
             (Part::Own, other) => Some(other),
-            (Part::Old, Column::Old(compared)) => Some(compared_column(compared)),
-            (Part::New, Column::New(compared)) => Some(compared_column(compared)),
+            (Part::Old, Column::Old(compared)) => Some(compared.column()),
+            (Part::New, Column::New(compared)) => Some(compared.column()),
             (Part::Old | Part::New, _) => None,
         }
     }

@@ -2,7 +2,7 @@
 use Rattle.std.specs.Prelude.{ℕ, Option, Some, None}
 use Rattle.lc_sheet.specs.Values.{ValueModel, missing, summed, blank, word, path, number, difference}
 use Rattle.lc_sheet.specs.declared.column.{Column.Column, Compared.Compared, Number.{Number, TheVariants.{Files, Lines, Blank, Bytes}}}
-use Rattle.lc_sheet.specs.declared.form.Form.{Form}
+use Rattle.lc_sheet.specs.declared.{form.Form.Form, key.Key.TheVariants.{Ext, Text, Eol}}
 use Rattle.lc_formats_tests.specs.declared.samples.{Sample.Sample, Version.Version}
 use Rattle.lc_sheet.specs.declared.column.Column.TheVariants as column
 use Rattle.lc_sheet.specs.declared.column.Compared.TheVariants as compared
@@ -19,8 +19,9 @@ number_of n None = 0
 number_of n (Some v) = number_in n v
 
 abbrev pub compared_in : Compared → Version → ValueModel
-compared_in compared.Text v = word v.text.now
-compared_in compared.Eol v = word v.eol.now
+compared_in (compared.Key Text) v = word v.text.now
+compared_in (compared.Key Eol) v = word v.eol.now
+compared_in (compared.Key other) v = blank
 compared_in (compared.Number n) v = number (number_in n v)
 
 abbrev pub compared_of : Compared → Option Version → ValueModel
@@ -28,9 +29,8 @@ compared_of c None = missing
 compared_of c (Some v) = compared_in c v
 
 abbrev pub sample_value : Form → Sample → Column → ValueModel
-sample_value form s column.Ext = word s.key.now
-sample_value form s column.Text = summed
-sample_value form s column.Eol = summed
+sample_value form s (column.Key Ext) = word s.key.now
+sample_value form s (column.Key other) = summed
 sample_value form s column.Change = word s.change.now
 sample_value form s column.Path = path s.path.now
 sample_value form s (column.Old c) = compared_of c s.old

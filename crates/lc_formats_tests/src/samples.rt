@@ -4,7 +4,7 @@ ghost use Rattle.std.specs.Prelude.{◌≡◌};
 ghost use Rattle.lc_sheet.specs.Values.{value_model};
 ghost use Rattle.lc_formats_tests.specs.Samples.{compared_in, compared_of, number_in, number_of, sample_value};
 
-use lc_sheet::{Column, Compared, Form, Lines, Number, Value};
+use lc_sheet::{Column, Compared, Form, Key, Lines, Number, Value};
 
 /// The values of a line in one report.
 #[derive(Clone, Copy)]
@@ -66,8 +66,9 @@ fn compared_in<'l>(compared: Compared, version: Version) -> Value<'l>
     ensures { value_model result ≡ compared_in compared version }
 {
     match compared {
-        Compared::Text => Value::Word(version.text),
-        Compared::Eol => Value::Word(version.eol),
+        Compared::Key(Key::Text) => Value::Word(version.text),
+        Compared::Key(Key::Eol) => Value::Word(version.eol),
+        Compared::Key(_) => Value::Blank,
         Compared::Number(number) => Value::Number(number_in(number, version)),
     }
 }
@@ -88,8 +89,8 @@ impl Lines for Samples {
 
     fn value<'l>(line: &'l Sample, form: Form, column: Column) -> Value<'l> {
         match column {
-            Column::Ext => Value::Word(line.key),
-            Column::Text | Column::Eol => Value::Summed,
+            Column::Key(Key::Ext) => Value::Word(line.key),
+            Column::Key(_) => Value::Summed,
             Column::Change => Value::Word(line.change),
             Column::Path => Value::Path(line.path),
             Column::Old(compared) => compared_of(compared, line.old),

@@ -15,6 +15,7 @@ use Rattle.lc_laws.proofs.{PrintedMembers.{is_named, values_of_line, values_of_m
 use Rattle.lc_laws.specs.ReadBack.{FitsCount, FitsFile}
 use Rattle.lc_sheet.specs.declared.column.Column.TheVariants as column
 use Rattle.lc_sheet.specs.declared.column.Number.TheVariants as number
+use Rattle.lc_sheet.specs.declared.key.Key.TheVariants as key
 
 -- a text is read as what was printed
 pub one_word : (v w : List ℕ) → string v ∷ [] ≡ string w ∷ [] → w ≡ v
@@ -25,25 +26,30 @@ one_word v w e = cc
 -- the columns of a file without its directory, after its path
 abbrev after_path : List Column
 after_path =
-    column.Ext ∷ column.Text ∷ column.Eol ∷ column.Number number.Lines ∷ column.Number number.Blank ∷ column.Number number.Bytes ∷ []
+    column.Key key.Ext ∷ column.Key key.Text ∷ column.Key key.Eol ∷ column.Number number.Lines ∷ column.Number number.Blank
+    ∷ column.Number number.Bytes ∷ []
 
-state_printed : (w : Option (List ℕ)) → values_at (codes "text") (value_members column.Text (word_value w)) ++ [] ≡ word_json w ∷ []
+state_printed : (w : Option (List ℕ))
+    → values_at (codes "text") (value_members (column.Key key.Text) (word_value w)) ++ [] ≡ word_json w ∷ []
 state_printed None = refl
 state_printed (Some w) = refl
+
+abbrev directory : Column
+directory = column.Key key.Dir
 
 module _ (form : Form) (by : Bool) (f : FileLineModel) where
   abbrev file_members : List Member
   file_members = line_members (recorded_columns by) (line_of (file_value form) (recorded_columns by) f)
 
   abbrev later : List Column
-  later = column_if by column.Dir ++ after_path
+  later = column_if by directory ++ after_path
 
   -- what is under a name that no directory has
-  without_directory : (n : List ℕ) (b : Bool) → is_named n column.Dir ≡ false
-      → values_of_line n (column_if b column.Dir ++ after_path) (line_of (file_value form) (column_if b column.Dir ++ after_path) f)
+  without_directory : (n : List ℕ) (b : Bool) → is_named n directory ≡ false
+      → values_of_line n (column_if b directory ++ after_path) (line_of (file_value form) (column_if b directory ++ after_path) f)
       ≡ values_of_line n after_path (line_of (file_value form) after_path f)
   without_directory n true other =
-      ap (λ c. cond c (values_at n (value_members column.Dir (file_value form f column.Dir))
+      ap (λ c. cond c (values_at n (value_members directory (file_value form f directory))
       ++ values_of_line n after_path (line_of (file_value form) after_path f))
       (values_of_line n after_path (line_of (file_value form) after_path f))) other
   without_directory n false other = refl
@@ -65,7 +71,7 @@ module _ (form : Form) (by : Bool) (f : FileLineModel) where
       ∙ list_of_bytes (codes "path") refl refl (is_utf8 f.path) f.path
 
   -- what is under another name
-  file_at : (n : List ℕ) → is_named n column.Path ≡ false → is_named n column.Dir ≡ false
+  file_at : (n : List ℕ) → is_named n column.Path ≡ false → is_named n directory ≡ false
       → values_at n file_members ≡ values_of_line n after_path (line_of (file_value form) after_path f)
   file_at n path other =
       values_of_members n (recorded_columns by) (line_of (file_value form) (recorded_columns by) f)

@@ -1,6 +1,6 @@
 -- The sheet of a report, as a text in columns shows it, is readable.
-use Rattle.std.proofs.Common.{◌≡◌, ◌<◌, ◌-◌, ℕ, Bool, true, false, if◌then◌else◌, List, [], ◌∷◌, ◌++◌, length, map, is_some, unwrap_or}
-use Rattle.std.proofs.{Common.{Option, Some, None, codes, refl, sym, ap, ◌∙◌, append_assoc, subst, arith}, lemmas.List.map-append}
+use Rattle.std.proofs.Common.{◌≡◌, ◌<◌, ◌-◌, ℕ, Bool, true, false, if◌then◌else◌, List, [], ◌∷◌, ◌++◌, flat_map, length, map}
+use Rattle.std.proofs.{Common.{Option, Some, None, unwrap_or, codes, refl, sym, ap, ◌∙◌, append_assoc, subst, arith}, lemmas.List.map-append}
 use Rattle.std.proofs.lemmas.List.Elements.{All-cons, All-map, All-nil, All-take, All-weaker}
 use Rattle.std.specs.{List.All, Option.IfSome}
 use Rattle.lc_level.specs.{FaultLines.FaultLineModel, FaultWords.fault_word, Level.{FileLineModel, Reason as SkipReason, named_git}}
@@ -12,16 +12,17 @@ use Rattle.lc_rules.specs.declared.rule_source.RuleSource.{RuleSource, TheVarian
 use Rattle.lc_rules.specs.declared.states.TextState.{TextState}
 use Rattle.lc_text.specs.RulePlaces.{source_directory, source_name}
 use Rattle.lc_tree.specs.declared.entry.{Kind.{Kind, TheVariants.{File, Dir, Other}}, OtherKind.TheVariants.{Special, Mounted}}
-use Rattle.lc_sheet.specs.{ColumnWords.side_of, Values.{ValueModel, number, word}}
+use Rattle.lc_sheet.specs.{ColumnWords.side_of, Keys.{are_one_key, has_key, keys}, Values.{ValueModel, number, summed, word}}
+use Rattle.lc_sheet.specs.declared.{key.Key.Key, table_options.Columns.Columns}
 use Rattle.lc_sheet.specs.declared.column.{Column.Column, Number.TheVariants.{Files, Lines, Blank, Bytes}}
 use Rattle.lc_sheet.specs.declared.column.Side.{Side, TheVariants.{Left, Right, End}}
 use Rattle.lc_sheet.specs.declared.form.{Form.Form, Shares.Shares}
 use Rattle.lc_sheet.specs.declared.table_options.{Format.TheVariants.Table, Output.{Output, TheVariants.Text}, TableOptions.TableOptions}
 use Rattle.lc_walk.specs.declared.{report.Report.Report, tally.sums.Sums.Sums}
-use Rattle.lc_rows.specs.Kinds.{NamedSumsModel, directory_value, extension_value, fault_value, file_value, kept_value, named_in}
+use Rattle.lc_rows.specs.Kinds.{NamedSumsModel, directory_in, extension_value, fault_value, file_value, kept_value, key_value}
 use Rattle.lc_rows.specs.Kinds.{place_value, row_value, share_value, bar_value, skipped_value, sums_value, text_value}
-use Rattle.lc_rows.specs.{RowKeys.ShownRowModel, SheetColumns.{column_if, fault_columns, key_columns, listed_columns, listed_skipped}}
-use Rattle.lc_rows.specs.{SheetColumns.number_columns, Sheets.{form_of, list_of, others_lines, section_of, sheet_of, totals_lines}}
+use Rattle.lc_rows.specs.{RowKeys.{ShownRowModel, row_key}, SheetColumns.{column_if, fault_columns, key_columns, listed_columns}}
+use Rattle.lc_rows.specs.{SheetColumns.{listed_skipped, number_columns, shows_key}, Sheets.{form_of, list_of, others_lines, section_of, sheet_of, totals_lines}}
 use Rattle.lc_rows.specs.{Views.ViewModel, Words.skipped_end}
 use Rattle.lc_formats.specs.{Layouts.has_no_end, Readable.{AreBytes, AreReadable, AreRows, EndsInNumbers, IsListed, IsNumeral, IsPlain}}
 use Rattle.lc_formats.specs.Readable.{IsReadable}
@@ -29,6 +30,7 @@ use Rattle.lc_laws.specs.SheetReadable.{HasByteName, HasByteNames, HasSkippedByt
 use Rattle.lc_census.specs.declared.line_count.Eol.TheVariants as eol
 use Rattle.lc_rules.specs.declared.states.TextState.TheVariants as state
 use Rattle.lc_sheet.specs.declared.column.Column.TheVariants as column
+use Rattle.lc_sheet.specs.declared.key.Key.TheVariants as key
 use Rattle.lc_walk.specs.declared.tally.classes.ClassSums.{ClassSums}
 
 -- ---- words
@@ -83,13 +85,20 @@ directory_bytes p (InfoExclude depth) small = All-take (λ b. b < 256) (length p
 directory_bytes p (Gitignore depth) small = All-take (λ b. b < 256) (length p - length (below depth p)) p small
 directory_bytes p CommandLine small = All-nil (λ b. b < 256)
 
-directory_readable : (p : List ℕ) → AreBytes p → IsReadable Left (directory_value p)
-directory_readable [] small = (refl, small, refl)
-directory_readable (b ∷ bs) small = (refl, small, refl)
+directory_readable : (d : Option (List ℕ)) → AreBytes (unwrap_or d []) → IsReadable Left (directory_in d)
+directory_readable None small = tt
+directory_readable (Some []) small = (refl, small, refl)
+directory_readable (Some (b ∷ bs)) small = (refl, small, refl)
 
 extension_readable : (e : Option (List ℕ)) → IfSome e AreBytes → IsReadable Left (extension_value e)
 extension_readable None small = tt
 extension_readable (Some n) small = (refl, small, refl)
+
+key_readable : (k : Key) (r : ShownRowModel) → HasByteNames r → IsReadable Left (key_value k (row_key r))
+key_readable key.Dir r small = directory_readable r.directory small.0
+key_readable key.Ext r small = extension_readable r.key.extension small.1
+key_readable key.Text r small = text_readable Left r.key.text
+key_readable key.Eol r small = eol_plain r.key.eol
 
 kept_readable : (kept : Bool) (v : ValueModel) → IsReadable Left v → IsReadable Left (kept_value kept v)
 kept_readable true v own = own
@@ -119,29 +128,18 @@ bar_readable side None s = tt
 bar_readable side (Some q) s = tt
 
 row_readable : (form : Form) (r : ShownRowModel) → HasByteNames r → (c : Column) → IsReadable (side_of c) (row_value form r c)
-row_readable form r small column.Dir =
-    kept_readable (is_some form.by.dir) (directory_value (unwrap_or r.directory [])) (directory_readable (unwrap_or r.directory []) small.0)
-row_readable form r small column.Ext =
-    kept_readable form.by.ext (extension_value r.key.extension) (extension_readable r.key.extension small.1)
-row_readable form r small column.Text = kept_readable form.by.text (text_value r.key.text) (text_readable Left r.key.text)
-row_readable form r small column.Eol = kept_readable form.by.eol (word (eol_word r.key.eol)) (eol_plain r.key.eol)
+row_readable form r small (column.Key k) = kept_readable (has_key form.by k) (key_value k (row_key r)) (key_readable k r small)
 row_readable form r small (column.Number n) = tt
 row_readable form r small column.Share = share_readable Right form.shares r.sums
 row_readable form r small column.Bar = bar_readable Left form.shares r.sums
 row_readable form r small other = tt
 
-named_readable : (first c : Column) (n : List ℕ) → IsPlain n → IsReadable (side_of c) (named_in first c n)
-named_readable column.Dir column.Dir n plain = plain
-named_readable column.Ext column.Ext n plain = plain
-named_readable column.Text column.Text n plain = plain
-named_readable column.Eol column.Eol n plain = plain
-named_readable first other n plain = tt
+named_readable : (here : Bool) (n : List ℕ) → IsPlain n → IsReadable Left (if here then word n else summed)
+named_readable true n plain = plain
+named_readable false n plain = tt
 
 sums_readable : (form : Form) (s : NamedSumsModel) → IsPlain s.name → (c : Column) → IsReadable (side_of c) (sums_value form s c)
-sums_readable form s plain column.Dir = named_readable form.first column.Dir s.name plain
-sums_readable form s plain column.Ext = named_readable form.first column.Ext s.name plain
-sums_readable form s plain column.Text = named_readable form.first column.Text s.name plain
-sums_readable form s plain column.Eol = named_readable form.first column.Eol s.name plain
+sums_readable form s plain (column.Key k) = named_readable (are_one_key form.first k) s.name plain
 sums_readable form s plain (column.Number n) = tt
 sums_readable form s plain column.Share = share_readable Right form.shares s.sums
 sums_readable form s plain other = tt
@@ -217,22 +215,19 @@ closed_more : (b : Bool) → IsClosed (more_columns b)
 closed_more true = refl
 closed_more false = refl
 
+closed_keys : (by : Columns) (ks : List Key) → IsClosed (flat_map (λ k. column_if (shows_key false by k) (column.Key k)) ks)
+closed_keys by [] = refl
+closed_keys by (k ∷ ks) =
+    closed_join (column_if (shows_key false by k) (column.Key k)) (flat_map (λ k. column_if (shows_key false by k) (column.Key k)) ks)
+    (closed_if (shows_key false by k) (column.Key k) refl) (closed_keys by ks)
+
 abbrev pub table_columns : TableOptions → List Column
 table_columns options = key_columns false options.by ++ number_columns ++ more_columns options.share
 
 closed_columns : (options : TableOptions) → IsClosed (table_columns options)
 closed_columns options =
-    let by = options.by in
-    let dir = column_if (is_some by.dir) column.Dir in
-    let ext = column_if by.ext column.Ext in
-    let text = column_if by.text column.Text in
-    let eols = column_if by.eol column.Eol in
-    closed_join (key_columns false by ++ number_columns) (more_columns options.share)
-    (closed_join (key_columns false by) number_columns
-    (closed_join (dir ++ ext ++ text) eols
-    (closed_join (dir ++ ext) text
-    (closed_join dir ext (closed_if (is_some by.dir) column.Dir refl) (closed_if by.ext column.Ext refl))
-    (closed_if by.text column.Text refl)) (closed_if by.eol column.Eol refl)) refl) (closed_more options.share)
+    closed_join (key_columns false options.by ++ number_columns) (more_columns options.share)
+    (closed_join (key_columns false options.by) number_columns (closed_keys options.by keys) refl) (closed_more options.share)
 
 -- ---- the sections
 

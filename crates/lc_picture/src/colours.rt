@@ -13,7 +13,7 @@ pub(crate) const SHARED_COLOUR: usize = 8;
 pub(crate) fn path_of<'a>(row: &ShownRow<'a>) -> &'a [u8]
     ensures { result.now ≡ path_of row.now }
 {
-    row.directory.unwrap_or(&[])
+    row.key.directory.unwrap_or(&[])
 }
 
 fn same_extension(a: Option<&[u8]>, b: Option<&[u8]>) -> bool
@@ -31,7 +31,7 @@ fn place_of(extension: Option<&[u8]>, rows: &[ShownRow<'_>]) -> usize
 {
     for place in 0..rows.len() {
         let row = &rows[place];
-        if same_extension(extension, row.extension) {
+        if same_extension(extension, row.key.extension) {
             return place;
         }
     }
@@ -75,7 +75,7 @@ pub(crate) fn main_colour(
         }
         let own = number_in(by, kind.sums);
         if number < own {
-            colour = colour_of(chart, kind.extension);
+            colour = colour_of(chart, kind.key.extension);
         }
         number = own.max(number);
     }

@@ -24,10 +24,8 @@ use std::alloc::{AllocError, Global};
 
 /// The columns by which the rows of the chart are grouped: the extension alone.
 const CHART_COLUMNS: Columns = Columns {
-    dir: None,
     ext: true,
-    text: false,
-    eol: false,
+    ..Columns::NONE
 };
 
 /// The greatest number of extensions that have a bar.
@@ -40,9 +38,7 @@ const TREE_DEPTH: u32 = 250;
 /// The columns of the rows from which boxes of directories are made: the directory alone.
 const TREE_COLUMNS: Columns = Columns {
     dir: Some(1),
-    ext: false,
-    text: false,
-    eol: false,
+    ..Columns::NONE
 };
 
 /// The columns of the rows that decide the colours of boxes: the directory and the extension.

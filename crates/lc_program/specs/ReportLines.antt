@@ -6,7 +6,7 @@ use Rattle.lc_program.specs.Reasons.{unexplained_line}
 use Rattle.lc_program.specs.declared.cause.Cause.{Cause, TheVariants.{InReport, Memory, NoSharedColumn, SumsTooLarge}}
 use Rattle.lc_program.specs.declared.unread_reason.UnreadReason.{UnreadReason}
 use Rattle.lc_reading.specs.{MemberNames.member_name, declared.read_fault.{NoReport.NoReport, Part.Part, ReadFault.ReadFault}}
-use Rattle.lc_sheet.specs.ColumnWords.{column_name}
+use Rattle.lc_sheet.specs.Keys.{key_name}
 use Rattle.lc_reports.specs.declared.sum_fault.SumFault.{SumFault}
 use Rattle.lc_text.specs.Visible.{visible_bytes}
 use Rattle.lc_io.specs.declared.whole.WholeFault.TheVariants as whole
@@ -65,8 +65,8 @@ IsRefusedFor name (fault.DoNotAddUp part) cause = IsTold (report_line name (sums
 
 abbrev pub IsUnsummedFor : SumFault → Cause → Type 0
 IsUnsummedFor sum.Memory cause = cause ≡ Memory
-IsUnsummedFor (sum.NoColumn origin column) cause =
-    IsTold (report_line origin.now (codes "has no column " ++ column_name column ++ codes ": count with --files")) cause
+IsUnsummedFor (sum.NoColumn origin key) cause =
+    IsTold (report_line origin.now (codes "has no column " ++ key_name key ++ codes ": count with --files")) cause
 IsUnsummedFor sum.NoSharedColumn cause = cause ≡ NoSharedColumn
 IsUnsummedFor (sum.NoFiles origin) cause = IsTold (report_line origin.now (codes "has no files: count with --files")) cause
 IsUnsummedFor (sum.NoSkipped origin) cause =

@@ -37,10 +37,8 @@ use std::thread::Threads;
 
 /// The columns by which rows are grouped if the command line names none: the extension alone.
 const BY_EXTENSION: Columns = Columns {
-    dir: None,
     ext: true,
-    text: false,
-    eol: false,
+    ..Columns::NONE
 };
 
 fn compared_columns(table: TableRequest) -> Columns

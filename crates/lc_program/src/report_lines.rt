@@ -1,7 +1,7 @@
 //! The lines on standard error about reports that can't be read or added up.
 
 ghost use Rattle.std.specs.Prelude.{◌≡◌, ◌++◌, codes, string_bytes, IfOk};
-ghost use Rattle.lc_sheet.specs.ColumnWords.{column_name};
+ghost use Rattle.lc_sheet.specs.Keys.{key_name};
 ghost use Rattle.lc_program.specs.ReportLines.{IsRefusedFor, IsTold, IsUnreadFor, IsUnsummedFor, MayBeWhy, no_report_text, origin_of};
 ghost use Rattle.lc_program.specs.ReportLines.{report_line, sums_text};
 ghost use Rattle.lc_program.specs.Reasons.{unexplained_line};
@@ -13,7 +13,7 @@ use crate::unread_reason::UnreadReason;
 use lc_io::WholeFault;
 use lc_reading::{NoReport, Part, ReadFault};
 use lc_reports::SumFault;
-use lc_sheet::Column;
+use lc_sheet::Key;
 use lc_text::push_visible;
 use std::alloc::{AllocError, Global};
 
@@ -146,20 +146,20 @@ pub(crate) fn cause_of_refusal(alloc: Global, name: &[u8], fault: ReadFault) -> 
 }
 
 /// Makes the text that says that a report lacks a column. The text follows the name of the report.
-fn no_column_text(alloc: Global, column: Column) -> Result<String, AllocError>
-    ensures { IfOk result (λ text. string_bytes text ≡ codes "has no column " ++ column_name column ++ codes ": count with --files") }
+fn no_column_text(alloc: Global, key: Key) -> Result<String, AllocError>
+    ensures { IfOk result (λ text. string_bytes text ≡ codes "has no column " ++ key_name key ++ codes ": count with --files") }
 {
     let mut text = String::from_str(alloc, "has no column ")?;
-    text.push_str(column.name())?;
+    text.push_str(key.name())?;
     text.push_str(": count with --files")?;
     Ok(text)
 }
 
 /// Makes the cause whose line says that a report lacks a column.
-fn no_column_cause(alloc: Global, name: &[u8], column: Column) -> Cause
-    ensures { IsTold (report_line name.now (codes "has no column " ++ column_name column ++ codes ": count with --files")) result }
+fn no_column_cause(alloc: Global, name: &[u8], key: Key) -> Cause
+    ensures { IsTold (report_line name.now (codes "has no column " ++ key_name key ++ codes ": count with --files")) result }
 {
-    match no_column_text(alloc, column) {
+    match no_column_text(alloc, key) {
         Ok(text) => report_cause(alloc, name, &text),
         Err(AllocError) => Cause::Memory,
     }
@@ -171,7 +171,7 @@ pub(crate) fn cause_of_sum(alloc: Global, fault: SumFault<'_>) -> Cause
 {
     match fault {
         SumFault::Memory => Cause::Memory,
-        SumFault::NoColumn(name, column) => no_column_cause(alloc, name.as_bytes(), column),
+        SumFault::NoColumn(name, key) => no_column_cause(alloc, name.as_bytes(), key),
         SumFault::NoSharedColumn => Cause::NoSharedColumn,
         SumFault::NoFiles(name) => {
             report_cause(alloc, name.as_bytes(), "has no files: count with --files")

@@ -7,8 +7,9 @@ use Rattle.lc_level.specs.Level.{FileLineModel}
 use Rattle.lc_reports.proofs.{Orders.join_order, RepeatedPaths.times_moved}
 use Rattle.lc_walk.proofs.MovedLists.{lists_moved}
 use Rattle.lc_walk.specs.declared.report.Report.{Report}
-use Rattle.lc_reports.specs.{Laws.SumOrderLaw, Needs.{has_some, lacks_column, lacks_files, lacks_skipped, shared_columns}, Paths.AreApart}
+use Rattle.lc_reports.specs.{Laws.SumOrderLaw, Needs.{lacks_column, lacks_files, lacks_skipped, share_some}, Paths.AreApart}
 use Rattle.lc_reports.specs.{Paths.paths_of, Sums.{CanBeSummed, IsSumOf, NoneLacks, needed_report, needed_reports}}
+use Rattle.lc_sheet.specs.Keys.{has_key, report_keys}
 use Rattle.lc_reports.specs.declared.{needs.Needs.Needs, part.Part.Part}
 
 -- ---- what none lacks
@@ -42,13 +43,8 @@ module _ (ps moved : List Part) (m : IsPermutation ps moved) where
       (λ e. list_all-from_AllPass p ps (All-permutation (λ q. p q ≡ true) moved ps (IsPermutation-sym ps moved m)
       (AllPass-from_list_all p moved e)))
 
-  shared_moved : shared_columns ps ≡ shared_columns moved
-  shared_moved = λ i. record {
-    dir = None;
-    ext = all_moved (λ p. p.report.columns.ext) i;
-    text = all_moved (λ p. p.report.columns.text) i;
-    eol = all_moved (λ p. p.report.columns.eol) i;
-  }
+  shared_moved : share_some ps ≡ share_some moved
+  shared_moved = λ i. list_any (λ k. all_moved (λ p. has_key p.report.columns k) i) report_keys
 
   paths_moved : IsPermutation (paths_of ps) (paths_of moved)
   paths_moved = lists_moved (λ (p : Part). map (λ (f : FileLineModel). f.path) p.report.files.items) ps moved m
@@ -60,7 +56,7 @@ module _ (ps moved : List Part) (m : IsPermutation ps moved) where
   can_be_moved needs can = record {
     columns = record {
       each = none_moved (lacks_column needs.columns) can.columns.each;
-      shared = λ needed. ap has_some (sym shared_moved) ∙ can.columns.shared needed;
+      shared = λ needed. sym shared_moved ∙ can.columns.shared needed;
     };
     lists = record {
       files = λ needed. none_moved lacks_files (can.lists.files needed);

@@ -1,5 +1,5 @@
 -- Joined reports have no order and no grouping.
-use Rattle.std.proofs.Common.{◌≡◌, ℕ, ◌+◌, Bool, true, false, ◌&&◌, List, [], ◌∷◌, ◌++◌, refl, sym, ◌∙◌, ap, subst, IsPermutation}
+use Rattle.std.proofs.Common.{◌≡◌, ℕ, ◌+◌, Bool, true, false, ◌&&◌, List, [], ◌∷◌, ◌++◌, None, refl, sym, ◌∙◌, ap, subst, IsPermutation}
 use Rattle.std.proofs.lemmas.Grind.{flat_map-append}
 use Rattle.std.proofs.lemmas.List.{Concat.flat_map-cons, Folds.list_all-append}
 use Rattle.std.proofs.lemmas.List.Sorted.{All-permutation, IsPermutation-append, IsPermutation-refl, IsPermutation-sym, IsPermutation-trans}
@@ -10,14 +10,11 @@ use Rattle.lc_level.specs.{FaultLines.FaultLineModel, Level.{FileLineModel, Skip
 use Rattle.lc_reports.proofs.Uniting.{united_permuted, united_with}
 use Rattle.lc_reports.specs.Joined.{IsJoined, IsUnited, all_faults, all_files, all_rows, all_skipped, if_wanted}
 use Rattle.lc_reports.specs.Joined.{shared_columns, shared_lists}
-use Rattle.lc_sheet.specs.declared.table_options.Columns.{Columns}
+use Rattle.lc_sheet.specs.{Keys.{columns_of, has_key}, declared.table_options.Columns.Columns}
 use Rattle.lc_reports.specs.{Laws.{JoinGroupLaw, JoinOrderLaw}, LineOrder.{fault_cmp, skipped_cmp}}
 use Rattle.lc_walk.proofs.{MovedLists.lists_moved, RowSums.{has_both, has_further, has_permuted, has_same, same_sums}}
 use Rattle.lc_walk.specs.{TallyRows.{AddsUp, TallyRowModel}, declared.{options.ReportLists.ReportLists, report.Report.Report}}
 use Rattle.lc_walk.specs.declared.tally.sums.Sums.{Sums}
-
-same_columns : (a b : Columns) → a.dir ≡ b.dir → a.ext ≡ b.ext → a.text ≡ b.text → a.eol ≡ b.eol → a ≡ b
-same_columns a b d x t e = λ i. record { dir = d i; ext = x i; text = t i; eol = e i }
 
 same_lists : (a b : ReportLists) → a.files ≡ b.files → a.left_out ≡ b.left_out → a ≡ b
 same_lists a b f l = λ i. record { files = f i; left_out = l i }
@@ -58,8 +55,7 @@ sums_moved of rs moved m =
 pub join_order : JoinOrderLaw
 join_order rs moved r m is = record {
   rows = adds_moved (all_rows rs) (all_rows moved) r.rows.items (lists_moved (λ (x : Report). x.rows.items) rs moved m) is.rows;
-  columns = is.columns ∙ same_columns (shared_columns rs) (shared_columns moved) refl (all_moved (λ x. x.columns.ext) rs moved m)
-      (all_moved (λ x. x.columns.text) rs moved m) (all_moved (λ x. x.columns.eol) rs moved m);
+  columns = is.columns ∙ (λ i. columns_of (λ k. all_moved (λ x. has_key x.columns k) rs moved m i));
   totals = is.totals ∙ sums_moved (λ x. x.totals) rs moved m;
   text = is.text ∙ sums_moved (λ x. x.classes.text) rs moved m;
   binary = is.binary ∙ sums_moved (λ x. x.classes.binary) rs moved m;
@@ -107,10 +103,12 @@ module _ (part others : List Report) (one r : Report) (first : IsJoined part one
       (sums_of_parts (λ x. (of x).bytes) (ap (λ (s : Sums). s.bytes) same))
 
   columns_of_parts : r.columns ≡ shared_columns (part ++ others)
-  columns_of_parts = is.columns ∙ same_columns (shared_columns (one ∷ others)) (shared_columns (part ++ others)) refl
-      (all_of_parts (λ x. x.columns.ext) (ap (λ (c : Columns). c.ext) first.columns))
-      (all_of_parts (λ x. x.columns.text) (ap (λ (c : Columns). c.text) first.columns))
-      (all_of_parts (λ x. x.columns.eol) (ap (λ (c : Columns). c.eol) first.columns))
+  columns_of_parts = is.columns ∙ (λ i. record {
+    dir = None;
+    ext = all_of_parts (λ x. x.columns.ext) (ap (λ (c : Columns). c.ext) first.columns) i;
+    text = all_of_parts (λ x. x.columns.text) (ap (λ (c : Columns). c.text) first.columns) i;
+    eol = all_of_parts (λ x. x.columns.eol) (ap (λ (c : Columns). c.eol) first.columns) i;
+  })
 
   shared_of_parts : r.lists ≡ shared_lists (part ++ others)
   shared_of_parts = is.lists ∙ same_lists (shared_lists (one ∷ others)) (shared_lists (part ++ others))

@@ -5,7 +5,7 @@ use Rattle.std.specs.{List.Sorted.{IsPermutation, IsSortedByKey, IsStrictlySorte
 use Rattle.lc_level.specs.{FaultLines.FaultLineModel, Level.{FileLineModel, SkippedLineModel}}
 use Rattle.lc_reports.specs.{LineOrder.{fault_cmp, skipped_cmp}, declared.join_fault.JoinFault.{JoinFault, TheVariants.{Memory, TooLarge}}}
 use Rattle.lc_tree.specs.ByteOrder.{bytes_cmp}
-use Rattle.lc_sheet.specs.declared.table_options.Columns.{Columns}
+use Rattle.lc_sheet.specs.{Keys.{columns_of, has_key}, declared.table_options.Columns.Columns}
 use Rattle.lc_walk.specs.{Sums.IsInRange, TallyRows.{TallyRowModel, AddsUp, sums_of_rows}, declared.options.ReportLists.ReportLists}
 use Rattle.lc_walk.specs.declared.{report.Report.Report, tally.sums.Sums.Sums}
 
@@ -55,12 +55,7 @@ all_entries rs = sum_by (λ (r : Report). r.entries) rs
 
 -- the columns that the rows of each of these reports are grouped by
 abbrev pub shared_columns : List Report → Columns
-shared_columns rs = record {
-  dir = None;
-  ext = list_all (λ (r : Report). r.columns.ext) rs;
-  text = list_all (λ (r : Report). r.columns.text) rs;
-  eol = list_all (λ (r : Report). r.columns.eol) rs;
-}
+shared_columns rs = columns_of (λ k. list_all (λ (r : Report). has_key r.columns k) rs)
 
 -- the optional lists that each of these reports has
 abbrev pub shared_lists : List Report → ReportLists

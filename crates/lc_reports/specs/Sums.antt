@@ -3,9 +3,9 @@ use Rattle.std.specs.{Prelude.{◌≡◌, ℕ, Bool, true, false, List, ⊤, map
 use Rattle.lc_reports.specs.{Joined.{Fits, IsJoined}, declared.{join_fault.JoinFault.JoinFault, needs.Needs.Needs, part.Part.Part}}
 use Rattle.lc_reports.specs.declared.sum_fault.SumFault.{SumFault}
 use Rattle.lc_reports.specs.declared.sum_fault.SumFault.TheVariants.{Memory, NoColumn, NoSharedColumn, NoFiles, NoSkipped, SamePath, TooLarge}
-use Rattle.lc_reports.specs.{Needs.{has_some, lacking, lacks_column, lacks_files, lacks_skipped, shared_columns}, Paths.AreApart}
+use Rattle.lc_reports.specs.{Needs.{lacking, lacks_column, lacks_files, lacks_skipped, share_some}, Paths.AreApart}
 use Rattle.lc_reports.specs.Paths.{IsFirstTwice, paths_of}
-use Rattle.lc_sheet.specs.declared.column.Column.{Column}
+use Rattle.lc_sheet.specs.declared.key.Key.{Key}
 use Rattle.lc_walk.specs.declared.report.Report.{Report}
 use Rattle.lc_reports.specs.declared.join_fault.JoinFault.TheVariants as join
 
@@ -20,16 +20,16 @@ pub record FirstLacks (lacks : Part → Bool) (ps : List Part) (origin : List �
   pub first : find lacks ps ≡ Some part
   pub named : origin ≡ part.origin.now
 
--- the first report that lacks a needed column has this name, and this is the first needed column that it lacks
-pub record FirstLacksColumn (needs : Needs) (ps : List Part) (origin : List ℕ) (column : Column) : Type 0 where
+-- the first report that lacks a needed column has this name, and this is the key of the first needed column that it lacks
+pub record FirstLacksColumn (needs : Needs) (ps : List Part) (origin : List ℕ) (key : Key) : Type 0 where
   pub part : Part
   pub first : find (lacks_column needs.columns) ps ≡ Some part
   pub named : origin ≡ part.origin.now
-  pub lacks : column ≡ lacking needs.columns part
+  pub lacks : key ≡ lacking needs.columns part
 
 pub record HaveColumns (needs : Needs) (ps : List Part) : Type 0 where
   pub each : NoneLacks (lacks_column needs.columns) ps
-  pub shared : needs.some_column ≡ true → has_some (shared_columns ps) ≡ true
+  pub shared : needs.some_column ≡ true → share_some ps ≡ true
 
 abbrev pub HaveFiles : Needs → List Part → Type 0
 HaveFiles needs ps = needs.files ≡ true → NoneLacks lacks_files ps
@@ -62,9 +62,9 @@ pub record IsSumOf (needs : Needs) (ps : List Part) (s : Report) : Type 0 where
 
 -- the error if a report lacks a needed column, or if no column is shared although one must be
 abbrev pub LacksColumns : Needs → List Part → SumFault → Type 0
-LacksColumns needs ps (NoColumn origin column) = FirstLacksColumn needs ps origin.now column
+LacksColumns needs ps (NoColumn origin key) = FirstLacksColumn needs ps origin.now key
 LacksColumns needs ps NoSharedColumn =
-    NoneLacks (lacks_column needs.columns) ps × (needs.some_column ≡ true) × (has_some (shared_columns ps) ≡ false)
+    NoneLacks (lacks_column needs.columns) ps × (needs.some_column ≡ true) × (share_some ps ≡ false)
 LacksColumns needs ps other = ⊥
 
 -- the error if a report lacks a needed list: that of files, or else that of skipped entries
@@ -93,7 +93,7 @@ IsUnjoined needs ps other = ⊥
 -- the first of these errors that holds; an allocation fails only after each report was found to have the needed columns and lists
 abbrev pub IsRefused : Needs → List Part → SumFault → Type 0
 IsRefused needs ps Memory = HaveColumns needs ps × HaveLists needs ps
-IsRefused needs ps (NoColumn origin column) = LacksColumns needs ps (NoColumn origin column)
+IsRefused needs ps (NoColumn origin key) = LacksColumns needs ps (NoColumn origin key)
 IsRefused needs ps NoSharedColumn = LacksColumns needs ps NoSharedColumn
 IsRefused needs ps (NoFiles origin) = HaveColumns needs ps × LacksLists needs ps (NoFiles origin)
 IsRefused needs ps (NoSkipped origin) = HaveColumns needs ps × LacksLists needs ps (NoSkipped origin)

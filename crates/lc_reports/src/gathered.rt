@@ -3,10 +3,11 @@ ghost use Rattle.std.specs.Prelude.{◌≡◌, IfOk, MatchOption, OnOk};
 ghost use Rattle.std.specs.List.{list_all};
 ghost use Rattle.lc_reports.specs.Gathered.{Adds, IsGathered, NumbersFit, no_numbers, numbers_of, numbers_with};
 ghost use Rattle.lc_reports.specs.Joined.{shared_columns, shared_lists};
+ghost use Rattle.lc_sheet.specs.Keys.{has_key};
 ghost use Rattle.lc_walk.specs.Sums.{IsInRange, plus};
 ghost use Rattle.lc_walk.specs.TallyRows.{sums_of_rows};
 
-use lc_sheet::Columns;
+use lc_sheet::{Columns, Key};
 use lc_walk::{FaultLine, FileLine, Report, ReportLists, SkippedLine, Sums, TallyRow};
 use std::alloc::{AllocError, Global};
 
@@ -77,22 +78,11 @@ impl Numbers {
     }
 }
 
-fn have_ext(reports: &[Report]) -> bool
-    ensures { result ≡ list_all (λ r. r.columns.ext) reports.now }
+/// Returns whether the rows of each of these reports are grouped by a key.
+fn have_key(key: Key, reports: &[Report]) -> bool
+    ensures { result ≡ list_all (λ r. has_key r.columns key) reports.now }
 {
-    reports.iter().all(|report| report.columns.ext)
-}
-
-fn have_text(reports: &[Report]) -> bool
-    ensures { result ≡ list_all (λ r. r.columns.text) reports.now }
-{
-    reports.iter().all(|report| report.columns.text)
-}
-
-fn have_eol(reports: &[Report]) -> bool
-    ensures { result ≡ list_all (λ r. r.columns.eol) reports.now }
-{
-    reports.iter().all(|report| report.columns.eol)
+    reports.iter().all(|report| report.columns.has(key))
 }
 
 /// Returns the columns that the rows of each of these reports are grouped by.
@@ -101,9 +91,9 @@ pub(crate) fn shared_columns(reports: &[Report]) -> Columns
 {
     Columns {
         dir: None,
-        ext: have_ext(reports),
-        text: have_text(reports),
-        eol: have_eol(reports),
+        ext: have_key(Key::Ext, reports),
+        text: have_key(Key::Text, reports),
+        eol: have_key(Key::Eol, reports),
     }
 }
 

@@ -2,10 +2,9 @@
 
 ghost use Rattle.std.specs.Prelude.{◌≡◌};
 ghost use Rattle.std.specs.List.{list_any};
-ghost use Rattle.lc_reports.specs.Needs.{by_directory, is_on_eol, is_on_ext, is_on_key, is_on_text, named_columns};
-ghost use Rattle.lc_reports.specs.Needs.{needs_of, tested_columns};
+ghost use Rattle.lc_reports.specs.Needs.{by_directory, is_on, is_on_key, needs_of, tests_key};
 
-use lc_sheet::{Column, Columns, Condition, needs_files};
+use lc_sheet::{Column, Columns, Condition, Key, REPORT_KEYS, needs_files};
 
 /// What is needed of each report that is summed.
 #[derive(Clone, Copy, Debug, Drop, PartialEq, Eq)]
@@ -20,41 +19,23 @@ pub struct Needs {
     pub left_out: bool,
 }
 
-fn is_on_ext(condition: &Condition<'_>) -> bool
-    ensures { result ≡ is_on_ext condition.now }
+fn is_on(key: Key, condition: &Condition<'_>) -> bool
+    ensures { result ≡ is_on key condition.now }
 {
-    matches!(condition.column, Column::Ext)
+    matches!(condition.column, Column::Key(tested) if tested == key)
 }
 
-fn is_on_text(condition: &Condition<'_>) -> bool
-    ensures { result ≡ is_on_text condition.now }
-{
-    matches!(condition.column, Column::Text)
-}
-
-fn is_on_eol(condition: &Condition<'_>) -> bool
-    ensures { result ≡ is_on_eol condition.now }
-{
-    matches!(condition.column, Column::Eol)
-}
-
-/// Returns whether a condition is on a column that rows are grouped by.
+/// Returns whether a condition is on a key of reports' rows.
 fn is_on_key(condition: &Condition<'_>) -> bool
     ensures { result ≡ is_on_key condition.now }
 {
-    is_on_ext(condition) || is_on_text(condition) || is_on_eol(condition)
+    REPORT_KEYS.iter().any(|key| is_on(*key, condition))
 }
 
-fn test_ext(conditions: &[Condition<'_>]) -> bool
-    ensures { result ≡ list_any is_on_ext conditions.now }
+fn test_key(key: Key, conditions: &[Condition<'_>]) -> bool
+    ensures { result ≡ list_any (is_on key) conditions.now }
 {
-    conditions.iter().any(|condition| is_on_ext(condition))
-}
-
-fn test_text(conditions: &[Condition<'_>]) -> bool
-    ensures { result ≡ list_any is_on_text conditions.now }
-{
-    conditions.iter().any(|condition| is_on_text(condition))
+    conditions.iter().any(|condition| is_on(key, condition))
 }
 
 fn test_keys(conditions: &[Condition<'_>]) -> bool
@@ -63,30 +44,16 @@ fn test_keys(conditions: &[Condition<'_>]) -> bool
     conditions.iter().any(|condition| is_on_key(condition))
 }
 
-/// Returns the columns of rows that are needed to test the given conditions.
+/// Returns whether the given conditions need a key of rows.
 ///
-/// A condition on a column of rows also needs the column `Eol`, because text and binary files that meet the condition are summed anew.
-fn tested_columns(conditions: &[Condition<'_>]) -> Columns
-    ensures { result ≡ tested_columns conditions.now }
+/// A condition on any such key also needs `Eol`, because text and binary files that meet the condition are summed anew.
+fn tests_key(conditions: &[Condition<'_>], key: Key) -> bool
+    ensures { result ≡ tests_key conditions.now key }
 {
-    Columns {
-        dir: None,
-        ext: test_ext(conditions),
-        text: test_text(conditions),
-        eol: test_keys(conditions),
+    match key {
+        Key::Eol => test_keys(conditions),
+        _ => test_key(key, conditions),
     }
-}
-
-/// Returns the requested columns, or none if no columns were requested.
-fn named_columns(by: Option<Columns>) -> Columns
-    ensures { result ≡ named_columns by }
-{
-    by.unwrap_or(Columns {
-        dir: None,
-        ext: false,
-        text: false,
-        eol: false,
-    })
 }
 
 fn by_directory(by: Option<Columns>) -> bool
@@ -112,14 +79,13 @@ impl Needs {
     ) -> Needs
         ensures { result ≡ needs_of by conditions.now files left_out }
     {
-        let named = named_columns(by);
-        let tested = tested_columns(conditions);
+        let named = by.unwrap_or(Columns::NONE);
         Needs {
             columns: Columns {
                 dir: None,
-                ext: named.ext || tested.ext,
-                text: named.text || tested.text,
-                eol: named.eol || tested.eol,
+                ext: named.ext || tests_key(conditions, Key::Ext),
+                text: named.text || tests_key(conditions, Key::Text),
+                eol: named.eol || tests_key(conditions, Key::Eol),
             },
             some_column: by.is_none(),
             files: files || by_directory(by) || needs_files(conditions),

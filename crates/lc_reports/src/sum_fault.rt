@@ -4,7 +4,7 @@ ghost use Rattle.std.specs.Prelude.{◌≡◌};
 ghost use Rattle.lc_reports.specs.Sums.{fault_of_join};
 
 use crate::join_fault::JoinFault;
-use lc_sheet::Column;
+use lc_sheet::Key;
 use std::alloc::AllocError;
 
 /// Why reports are not summed. The `&str` in a variant is the name of the first report that has the error.
@@ -12,9 +12,9 @@ use std::alloc::AllocError;
 pub enum SumFault<'n> {
     /// An allocation failed. Memory is allocated only after each report was found to have the needed columns and lists.
     Memory,
-    /// A report lists no files, and its rows lack a needed column. The `Column` is the first column, in the order `Ext`, `Text`, `Eol`,
-    /// that is needed and that the rows lack.
-    NoColumn(&'n str, Column),
+    /// The rows of a report lack a needed column. The `Key` is that of the first column, in the order `Ext`, `Text`, `Eol`, that is needed
+    /// and that the rows lack.
+    NoColumn(&'n str, Key),
     /// No column is in every report. This is an error only if no columns were requested.
     NoSharedColumn,
     /// A report lists no files.

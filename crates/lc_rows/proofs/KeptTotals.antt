@@ -13,6 +13,7 @@ use Rattle.lc_walk.specs.declared.{options.ReportLists.ReportLists, report.Repor
 use Rattle.lc_rows.specs.Kept.{AreKeptRows, IsPart, file_meets, holds_all, kept_totals, row_meets, value_of_file, value_of_row}
 use Rattle.lc_rows.specs.KeptLaws.{KeptTotalsLaw}
 use Rattle.lc_sheet.specs.declared.column.Column.TheVariants as column
+use Rattle.lc_sheet.specs.declared.key.Key.TheVariants as key
 
 -- ---- the tally of the files whose keys pass a test
 
@@ -74,6 +75,10 @@ path_meets (compared comparison n) p = refl
 file_at : (f : FileLineModel) (t : TestModel) (c : Column) → is_number c ≡ false
     → meets t (value_of_file f c) ≡ meets t (value_of_row (row_at (key_of (counted_line f))) c)
 file_at f t (column.Number n) e = cc
+file_at f t (column.Key key.Dir) e = refl
+file_at f t (column.Key key.Ext) e = refl
+file_at f t (column.Key key.Text) e = refl
+file_at f t (column.Key key.Eol) e = refl
 file_at f t column.Path e = path_meets t f.path
 file_at f t other e = refl
 

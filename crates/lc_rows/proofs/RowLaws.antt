@@ -7,7 +7,8 @@ use Rattle.lc_sheet.specs.declared.{table_options.Columns.Columns, column.Number
 use Rattle.lc_walk.proofs.{ReportTotals.sum_by-map, RowSums.same_sums}
 use Rattle.lc_walk.specs.{Key.{Key, key_cmp}, Sums.one_file, TallyRows.{TallyRowModel, IsInOrder}, declared.tally.sums.Sums.Sums}
 use Rattle.lc_rows.specs.{Laws.{PermutationLaw, TotalsLaw, WholeLaw, totals_of}, RowKeys.{RowKey, ShownRowModel, row_key}}
-use Rattle.lc_rows.specs.{RowKeys.{row_key_cmp, rows_within, sums_of_shown}, ShownRows.{AreAddedUp, AreSorted, keeps_all, part_of_file}}
+use Rattle.lc_sheet.specs.Keys.{are_all}
+use Rattle.lc_rows.specs.{RowKeys.{row_key_cmp, rows_within, sums_of_shown}, ShownRows.{AreAddedUp, AreSorted, part_of_file}}
 use Rattle.lc_rows.specs.ShownRows.{part_of_row, parts_in, parts_of}
 use Rattle.lc_level.specs.Level.{FileLineModel}
 use Rattle.lc_walk.specs.AllColumns.{all_columns}
@@ -58,7 +59,7 @@ moved_totals xs ys h =
 -- sums over fewer columns add up to the same totals
 pub totals_law : TotalsLaw
 totals_law by sort rs fs shown h =
-    moved_totals h.0 shown (moved sort h.0 shown h.2) ∙ summed_totals (keeps_all by) (parts_of by rs fs) h.0 h.1
+    moved_totals h.0 shown (moved sort h.0 shown h.2) ∙ summed_totals (are_all by) (parts_of by rs fs) h.0 h.1
     ∙ parts_totals by.dir by rs fs
 
 -- keys of all columns rise as the keys of the report's rows do

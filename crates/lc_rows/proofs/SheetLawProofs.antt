@@ -45,10 +45,7 @@ is_same Bytes Bytes e = refl
 -- a column that has a number is that number's
 is_its : (n : Number) (c : Column) → is_number n c ≡ true → c ≡ column.Number n
 is_its n (column.Number m) e = ap column.Number (sym (is_same n m e))
-is_its n column.Dir e = cc
-is_its n column.Ext e = cc
-is_its n column.Text e = cc
-is_its n column.Eol e = cc
+is_its n (column.Key k) e = cc
 is_its n column.Share e = cc
 is_its n column.Bar e = cc
 is_its n column.Path e = cc

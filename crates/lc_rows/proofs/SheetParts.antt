@@ -1,13 +1,15 @@
 -- No row of a sheet has a share over the total or a bar over the longest.
 use Rattle.std.proofs.Common.{◌≡◌, ◌≤◌, ℕ, Bool, true, false, List, [], ◌∷◌, get_or, Option, Some, None, sym, ap, subst, ◌∙◌, arith}
 use Rattle.std.proofs.{Common.{codes, if◌then◌else◌}, lemmas.List.Elements.{All-cons, All-map, All-nil}}
-use Rattle.std.specs.{Prelude.{is_some, unwrap_or}, List.All}
+use Rattle.std.specs.{Prelude.unwrap_or, List.All}
 use Rattle.lc_rules.specs.declared.states.TextState.{TextState}
-use Rattle.lc_sheet.specs.{Sheets.{SheetModel, line_of, sheet_format}, Values.ValueModel, declared.column.{Column.Column, Number.Number}}
+use Rattle.lc_sheet.specs.{Keys.{are_one_key, has_key}, Sheets.{SheetModel, line_of, sheet_format}, Values.{ValueModel, summed, word}}
+use Rattle.lc_sheet.specs.declared.{column.{Column.Column, Number.Number}, key.Key.Key}
 use Rattle.lc_sheet.specs.declared.{form.{Form.Form, Shares.Shares}, table_options.TableOptions.TableOptions}
 use Rattle.lc_walk.specs.{Sums.{no_files, plus}, declared.{report.Report.Report, tally.sums.Sums.Sums}}
-use Rattle.lc_rows.specs.Kinds.{NamedSumsModel, bar_value, directory_value, extension_value, kept_value, named_in, row_value, share_value}
-use Rattle.lc_rows.specs.{Kinds.{sums_value, text_value}, RowKeys.{ShownRowModel, sums_of_shown}, SheetColumns.{row_columns, sums_columns}}
+use Rattle.lc_rows.specs.Kinds.{NamedSumsModel, bar_value, directory_in, extension_value, kept_value, key_value, row_value}
+use Rattle.lc_rows.specs.{Kinds.{share_value, sums_value, text_value}, RowKeys.{RowKey, ShownRowModel, row_key, sums_of_shown}}
+use Rattle.lc_rows.specs.SheetColumns.{row_columns, sums_columns}
 use Rattle.lc_rows.specs.{SheetLaws.{ClassPartsLaw, HasClassTotals, IsSectionWithin, IsWithin, SheetPartsLaw}, Sheets.form_of}
 use Rattle.lc_rows.specs.Sheets.{listed_files, others_lines, section_of, share_number, shares_of, sheet_of, totals_lines}
 use Rattle.lc_rows.specs.{ShownRows.number_in, Views.{first_of, view_of}}
@@ -15,6 +17,7 @@ use Rattle.lc_rows.proofs.{RowLaws.totals_law, RowParts.{first_are, rows_within_
 use Rattle.lc_rows.proofs.{SheetLawProofs.{number_plus, sorted_totals, text_line, total_line}, ViewLaws.cut_totals_law}
 use Rattle.lc_rules.specs.declared.states.TextState.TheVariants as text
 use Rattle.lc_sheet.specs.declared.column.Column.TheVariants as column
+use Rattle.lc_sheet.specs.declared.key.Key.TheVariants as key
 
 -- ---- values
 
@@ -26,9 +29,10 @@ extension_within : (extension : Option (List ℕ)) → IsWithin (extension_value
 extension_within None = tt
 extension_within (Some bytes) = tt
 
-directory_within : (path : List ℕ) → IsWithin (directory_value path)
-directory_within [] = tt
-directory_within (b ∷ bs) = tt
+directory_within : (directory : Option (List ℕ)) → IsWithin (directory_in directory)
+directory_within None = tt
+directory_within (Some []) = tt
+directory_within (Some (b ∷ bs)) = tt
 
 text_within : (state : TextState) → IsWithin (text_value state)
 text_within text.Set = tt
@@ -36,6 +40,12 @@ text_within text.Unset = tt
 text_within text.Auto = tt
 text_within text.Other = tt
 text_within text.Unspecified = tt
+
+key_within : (k : Key) (r : RowKey) → IsWithin (key_value k r)
+key_within key.Dir r = directory_within r.directory
+key_within key.Ext r = extension_within r.key.extension
+key_within key.Text r = text_within r.key.text
+key_within key.Eol r = tt
 
 share_within : (shown : Bool) (q : Shares) (s : Sums) → number_in q.number s ≤ q.total
     → IsWithin (share_value (if shown then Some q else None) s)
@@ -49,10 +59,7 @@ bar_within false q s le = tt
 
 value_within : (form : Form) (r : ShownRowModel) → IsWithin (share_value form.shares r.sums) → IsWithin (bar_value form.shares r.sums)
     → (c : Column) → IsWithin (row_value form r c)
-value_within form r part bar column.Dir = kept_within (is_some form.by.dir) _ (directory_within (unwrap_or r.directory []))
-value_within form r part bar column.Ext = kept_within form.by.ext _ (extension_within r.key.extension)
-value_within form r part bar column.Text = kept_within form.by.text _ (text_within r.key.text)
-value_within form r part bar column.Eol = kept_within form.by.eol _ tt
+value_within form r part bar (column.Key k) = kept_within (has_key form.by k) _ (key_within k (row_key r))
 value_within form r part bar (column.Number n) = tt
 value_within form r part bar column.Share = part
 value_within form r part bar column.Bar = bar
@@ -77,21 +84,15 @@ line_within : (form : Form) (r : ShownRowModel) (cs : List Column) → IsWithin 
     → IsWithin (bar_value form.shares r.sums) → All IsWithin (line_of (row_value form) cs r)
 line_within form r cs part bar = All-map IsWithin (row_value form r) cs (λ i d low. value_within form r part bar (get_or cs i d))
 
-named_within : (first c : Column) (n : List ℕ) → IsWithin (named_in first c n)
-named_within column.Dir column.Dir n = tt
-named_within column.Ext column.Ext n = tt
-named_within column.Text column.Text n = tt
-named_within column.Eol column.Eol n = tt
-named_within first other n = tt
+named_within : (here : Bool) (n : List ℕ) → IsWithin (if here then word n else summed)
+named_within true n = tt
+named_within false n = tt
 
 -- ---- sums
 
 sums_within : (form : Form) (s : NamedSumsModel) → IsWithin (share_value form.shares s.sums) → (c : Column)
     → IsWithin (sums_value form s c)
-sums_within form s part column.Dir = named_within form.first column.Dir s.name
-sums_within form s part column.Ext = named_within form.first column.Ext s.name
-sums_within form s part column.Text = named_within form.first column.Text s.name
-sums_within form s part column.Eol = named_within form.first column.Eol s.name
+sums_within form s part (column.Key k) = named_within (are_one_key form.first k) s.name
 sums_within form s part (column.Number n) = tt
 sums_within form s part column.Share = part
 sums_within form s part other = tt

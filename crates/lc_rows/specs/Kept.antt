@@ -1,7 +1,7 @@
 -- The part of a report that meets conditions.
 use Rattle.std.specs.{Prelude.{◌≡◌, Bool, if◌then◌else◌, List, [], ◌∷◌, map, filter, None}, Bool.MatchBool, List.list_all}
 use Rattle.lc_sheet.specs.{Conditions.{ConditionModel, meets, needs_files}, Values.ValueModel}
-use Rattle.lc_sheet.specs.declared.{column.Column.{Column, TheVariants.Ext}, form.Form.Form}
+use Rattle.lc_sheet.specs.declared.{column.Column.Column, form.Form.Form, key.Key.TheVariants.Ext}
 use Rattle.lc_level.specs.Level.{FileLineModel}
 use Rattle.lc_walk.specs.{ReportTotals.counted_line, Tally.{IsTally, sums_of_files}, TallyRows.{TallyRowModel, sums_of_rows}}
 use Rattle.lc_walk.specs.declared.{report.Report.Report, tally.sums.Sums.Sums}

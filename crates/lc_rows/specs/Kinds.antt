@@ -1,16 +1,18 @@
 -- The lines of a sheet: the values that rows, sums, files, skipped entries and errors have in each column.
-use Rattle.std.specs.Prelude.{ℕ, Bool, if◌then◌else◌, List, [], ◌∷◌, codes, is_some, unwrap_or, Option, Some, None}
+use Rattle.std.specs.Prelude.{ℕ, Bool, if◌then◌else◌, List, [], ◌∷◌, codes, Option, Some, None}
 use Rattle.lc_census.specs.EolWords.{eol_word}
 use Rattle.lc_level.specs.{FaultLines.FaultLineModel, FaultWords.fault_word, Level.{SkippedLineModel, FileLineModel, Reason as SkipReason}}
 use Rattle.lc_level.specs.ReasonWords.{attribute_of, reason_word, rule_of}
 use Rattle.lc_rules.specs.{TextWords.text_word, declared.{rule_source.RuleSource.RuleSource, states.TextState.TextState}}
-use Rattle.lc_sheet.specs.{Values.{ValueModel, missing, summed, blank, word, name, path, number, share, bar}, declared.column.Column.Column}
+use Rattle.lc_sheet.specs.{Keys.{are_one_key, has_key}, Values.{ValueModel, missing, summed, blank, word, name, path, number, share, bar}}
+use Rattle.lc_sheet.specs.declared.{column.Column.Column, key.Key.Key}
 use Rattle.lc_sheet.specs.declared.form.{Form.Form, Shares.Shares}
 use Rattle.lc_text.specs.RulePlaces.{source_directory, source_name}
-use Rattle.lc_walk.specs.{Extension.extension_of, declared.tally.sums.Sums.Sums}
-use Rattle.lc_rows.specs.{Directories.{directory_of, name_of}, RowKeys.ShownRowModel, ShownFiles.file_number, ShownRows.number_in}
+use Rattle.lc_walk.specs.declared.tally.sums.Sums.{Sums}
+use Rattle.lc_rows.specs.{RowKeys.{RowKey, ShownRowModel, row_key}, ShownFiles.file_number, ShownRows.{number_in, whole_key}}
 use Rattle.lc_rows.specs.Words.{kind_word, skipped_end}
 use Rattle.lc_sheet.specs.declared.column.Column.TheVariants as column
+use Rattle.lc_sheet.specs.declared.key.Key.TheVariants as key
 
 -- ---- values
 
@@ -35,6 +37,18 @@ word_value (Some w) = word w
 abbrev pub text_value : TextState → ValueModel
 text_value state = word_value (text_word state)
 
+-- the directory of files as a value; files without one are summed over directories
+abbrev pub directory_in : Option (List ℕ) → ValueModel
+directory_in None = summed
+directory_in (Some p) = directory_value p
+
+-- the value of files in the column of a key
+abbrev pub key_value : Key → RowKey → ValueModel
+key_value key.Dir k = directory_in k.directory
+key_value key.Ext k = extension_value k.key.extension
+key_value key.Text k = text_value k.key.text
+key_value key.Eol k = word (eol_word k.key.eol)
+
 -- the value in a column that rows are grouped by, or `summed` in a column that they are summed over
 abbrev pub kept_value : Bool → ValueModel → ValueModel
 kept_value kept value = if kept then value else summed
@@ -50,10 +64,7 @@ bar_value (Some q) s = bar (number_in q.number s) q.largest
 -- ---- rows
 
 abbrev pub row_value : Form → ShownRowModel → Column → ValueModel
-row_value form r column.Dir = kept_value (is_some form.by.dir) (directory_value (unwrap_or r.directory []))
-row_value form r column.Ext = kept_value form.by.ext (extension_value r.key.extension)
-row_value form r column.Text = kept_value form.by.text (text_value r.key.text)
-row_value form r column.Eol = kept_value form.by.eol (word (eol_word r.key.eol))
+row_value form r (column.Key k) = kept_value (has_key form.by k) (key_value k (row_key r))
 row_value form r (column.Number n) = number (number_in n r.sums)
 row_value form r column.Share = share_value form.shares r.sums
 row_value form r column.Bar = bar_value form.shares r.sums
@@ -66,35 +77,20 @@ pub record NamedSumsModel : Type 0 where
   pub name : List ℕ
   pub sums : Sums
 
--- the value of a line of sums in a column of keys: its name in the first of these columns, and `summed` in the others
-abbrev pub named_in : Column → Column → List ℕ → ValueModel
-named_in column.Dir column.Dir n = word n
-named_in column.Ext column.Ext n = word n
-named_in column.Text column.Text n = word n
-named_in column.Eol column.Eol n = word n
-named_in first other n = summed
+-- the value of a line of sums in the column of a key: its name in the first of these columns, and `summed` in the others
+abbrev pub named_in : Key → Key → List ℕ → ValueModel
+named_in first k n = if are_one_key first k then word n else summed
 
 abbrev pub sums_value : Form → NamedSumsModel → Column → ValueModel
-sums_value form s column.Dir = named_in form.first column.Dir s.name
-sums_value form s column.Ext = named_in form.first column.Ext s.name
-sums_value form s column.Text = named_in form.first column.Text s.name
-sums_value form s column.Eol = named_in form.first column.Eol s.name
+sums_value form s (column.Key k) = named_in form.first k s.name
 sums_value form s (column.Number n) = number (number_in n s.sums)
 sums_value form s column.Share = share_value form.shares s.sums
 sums_value form s other = blank
 
 -- ---- files
 
--- the directory that holds a file, cut after n names as the directories of rows are
-abbrev pub file_directory : Option ℕ → List ℕ → ValueModel
-file_directory None p = summed
-file_directory (Some n) p = directory_value (directory_of n p)
-
 abbrev pub file_value : Form → FileLineModel → Column → ValueModel
-file_value form f column.Dir = file_directory form.by.dir f.path
-file_value form f column.Ext = extension_value (extension_of (name_of f.path))
-file_value form f column.Text = text_value f.text
-file_value form f column.Eol = word (eol_word f.count.eol)
+file_value form f (column.Key k) = key_value k (whole_key form.by.dir f)
 file_value form f (column.Number n) = number (file_number n f)
 file_value form f column.Path = path f.path
 file_value form f other = blank

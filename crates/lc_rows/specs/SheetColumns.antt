@@ -1,8 +1,9 @@
 -- The columns that each section of a sheet has in each format.
-use Rattle.std.specs.Prelude.{Bool, true, false, if◌then◌else◌, List, [], ◌∷◌, ◌++◌, is_some}
+use Rattle.std.specs.{Prelude.{Bool, true, false, if◌then◌else◌, List, [], ◌∷◌, ◌++◌, flat_map, is_some, unwrap_or}, List.find}
 use Rattle.lc_rows.specs.declared.columns.TheConstants.{LISTED_FAULTS, LISTED_FILES, LISTED_SKIPPED, NUMBERS, RECORDED_FILES}
 use Rattle.lc_rows.specs.declared.columns.TheConstants.{SKIPPED_RECORDS}
-use Rattle.lc_sheet.specs.{Sheets.sheet_format, declared.column.Column.Column}
+use Rattle.lc_sheet.specs.{Keys.{has_key, keys}, Sheets.sheet_format}
+use Rattle.lc_sheet.specs.declared.{column.Column.Column, key.Key.{Key, TheVariants.{Dir, Eol}}}
 use Rattle.lc_sheet.specs.declared.table_options.{Columns.Columns, Format.{Format, TheVariants.{Tsv, Table, Json, Csv, Markdown}}}
 use Rattle.lc_sheet.specs.declared.table_options.TableOptions.{TableOptions}
 use Rattle.lc_sheet.specs.declared.column.Column.TheVariants as column
@@ -15,17 +16,19 @@ abbrev pub keeps_columns : Format → Bool
 keeps_columns Tsv = true
 keeps_columns other = false
 
--- the columns of the rows' keys: those that rows are grouped by, and in some formats also those that rows are summed over
-abbrev pub key_columns : Bool → Columns → List Column
-key_columns all by =
-    column_if (is_some by.dir) column.Dir ++ column_if (if all then true else by.ext) column.Ext
-    ++ column_if (if all then true else by.text) column.Text ++ column_if (if all then true else by.eol) column.Eol
+-- whether rows have the column of a key: if they are grouped by it, and in some formats also if they are summed over it; but the column of
+-- directories only if they are grouped by directory
+abbrev pub shows_key : Bool → Columns → Key → Bool
+shows_key all by Dir = is_some by.dir
+shows_key all by key = if all then true else has_key by key
 
--- the first of the columns of the rows' keys
-abbrev pub first_key : Bool → Columns → Column
-first_key all by =
-    if is_some by.dir then column.Dir else if (if all then true else by.ext) then column.Ext
-    else if by.text then column.Text else column.Eol
+-- the columns of the rows' keys
+abbrev pub key_columns : Bool → Columns → List Column
+key_columns all by = flat_map (λ key. column_if (shows_key all by key) (column.Key key)) keys
+
+-- the first of these keys
+abbrev pub first_key : Bool → Columns → Key
+first_key all by = unwrap_or (find (shows_key all by) keys) Eol
 
 -- the columns of numbers in rows and sums
 abbrev pub number_columns : List Column
@@ -53,7 +56,7 @@ abbrev pub listed_columns : List Column
 listed_columns = LISTED_FILES
 
 abbrev pub recorded_columns : Bool → List Column
-recorded_columns by_directory = column.Path ∷ (column_if by_directory column.Dir ++ RECORDED_FILES)
+recorded_columns by_directory = column.Path ∷ (column_if by_directory (column.Key Dir) ++ RECORDED_FILES)
 
 abbrev pub file_columns : Format → Columns → List Column
 file_columns Json by = recorded_columns (is_some by.dir)

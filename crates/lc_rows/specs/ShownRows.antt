@@ -1,8 +1,9 @@
 -- The rows that a table shows: summed over the columns that the table lacks, and sorted.
-use Rattle.std.specs.{Prelude.{◌≡◌, ℕ, Bool, true, false, ◌&&◌, if◌then◌else◌, List, map, Option, Some, None}, Bool.MatchBool}
+use Rattle.std.specs.{Prelude.{◌≡◌, ℕ, Bool, if◌then◌else◌, List, map, Option, Some, None, option_map}, Bool.MatchBool}
 use Rattle.std.specs.{List.Sorted.{IsPermutation, IsSorted}, Ordering.{nat_cmp, on, then_cmp}, declared.cmp.Ordering.Ordering}
 use Rattle.lc_census.specs.declared.line_count.Eol.TheVariants.{NoEnd}
 use Rattle.lc_rules.specs.declared.states.TextState.TheVariants.{Unspecified}
+use Rattle.lc_sheet.specs.Keys.{are_all}
 use Rattle.lc_sheet.specs.declared.{table_options.Columns.Columns, column.Number.{Number, TheVariants.{Files, Lines, Blank, Bytes}}}
 use Rattle.lc_walk.specs.{Extension.extension_of, Key.Key, Sums.one_file, TallyRows.TallyRowModel, declared.tally.sums.Sums.Sums}
 use Rattle.lc_rows.specs.{Directories.{directory_of, name_of}, RowKeys.{RowKey, ShownRowModel, AreInRowOrder, has_within, row_key}}
@@ -20,6 +21,10 @@ key_in by k = record {
 -- the key of a file, as the walk's tally has it
 abbrev pub file_key : FileLineModel → Key
 file_key f = record { extension = extension_of (name_of f.path); text = f.text; eol = f.count.eol }
+
+-- the whole key of a file: its directory, cut after n names, if files have directories, and its key in the tally
+abbrev pub whole_key : Option ℕ → FileLineModel → RowKey
+whole_key depth f = record { directory = option_map (λ n. directory_of n f.path) depth; key = file_key f }
 
 -- what a row of the report adds to a table without directories
 abbrev pub part_of_row : Columns → TallyRowModel → ShownRowModel
@@ -44,17 +49,9 @@ pub record AreAddedUp (parts rows : List ShownRowModel) : Type 0 where
   pub present : (keys : RowKey → Bool) → has_within keys rows ≡ has_within keys parts
   pub order : AreInRowOrder rows
 
--- whether rows are not by directory; a table with all other columns then shows the rows of the report
-abbrev pub has_no_directories : Option ℕ → Bool
-has_no_directories None = true
-has_no_directories (Some n) = false
-
-abbrev pub keeps_all : Columns → Bool
-keeps_all by = has_no_directories by.dir && by.ext && by.text && by.eol
-
 -- the rows as they are in the report if no column is missing and rows are not by directory, and otherwise what the parts add up to
 abbrev pub AreSummed : Columns → List TallyRowModel → List FileLineModel → List ShownRowModel → Type 0
-AreSummed by rs fs summed = MatchBool (keeps_all by) (summed ≡ parts_of by rs fs) (AreAddedUp (parts_of by rs fs) summed)
+AreSummed by rs fs summed = MatchBool (are_all by) (summed ≡ parts_of by rs fs) (AreAddedUp (parts_of by rs fs) summed)
 
 -- a number of some sums, such as the number of lines
 abbrev pub number_in : Number → Sums → ℕ

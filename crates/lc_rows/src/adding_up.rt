@@ -25,7 +25,7 @@ fn add_part<'a>(
 ) -> Result<ShownRow<'a>, AllocError>
     ensures { IfOk result (IsAdded rows.old.items last.entry part.now rows.new.items) }
 {
-    if last.key().compare(&part.key).is_eq() {
+    if last.key.compare(&part.key).is_eq() {
         return last.with(part.sums());
     }
     rows.push(last)?;

@@ -2,10 +2,13 @@
 
 ghost use Rattle.std.specs.Prelude.{◌≡◌, ◌++◌, if◌then◌else◌, [], IfOk, OnOk};
 ghost use Rattle.lc_rows.specs.SheetColumns.{column_if, file_columns, first_key, keeps_columns, key_columns, row_columns};
-ghost use Rattle.lc_rows.specs.SheetColumns.{share_columns, skipped_columns, sums_columns};
+ghost use Rattle.lc_rows.specs.SheetColumns.{share_columns, shows_key, skipped_columns, sums_columns};
+ghost use Rattle.std.specs.List.{find};
+ghost use Rattle.std.specs.Option.{option_copied};
+ghost use Rattle.lc_sheet.specs.Keys.{keys};
 ghost use Rattle.lc_sheet.specs.Sheets.{sheet_format};
 
-use lc_sheet::{Column, Columns, Format, Number, TableOptions};
+use lc_sheet::{Column, Columns, Format, KEYS, Key, Number, TableOptions};
 use std::alloc::{AllocError, Global};
 
 /// The columns of the numbers of rows and sums.
@@ -18,8 +21,8 @@ const NUMBERS: [Column; 4] = [
 
 /// The columns of files in lists.
 const LISTED_FILES: [Column; 6] = [
-    Column::Text,
-    Column::Eol,
+    Column::Key(Key::Text),
+    Column::Key(Key::Eol),
     Column::Number(Number::Lines),
     Column::Number(Number::Blank),
     Column::Number(Number::Bytes),
@@ -28,9 +31,9 @@ const LISTED_FILES: [Column; 6] = [
 
 /// The columns of files in records, after those of the path and of the directory.
 const RECORDED_FILES: [Column; 6] = [
-    Column::Ext,
-    Column::Text,
-    Column::Eol,
+    Column::Key(Key::Ext),
+    Column::Key(Key::Text),
+    Column::Key(Key::Eol),
     Column::Number(Number::Lines),
     Column::Number(Number::Blank),
     Column::Number(Number::Bytes),
@@ -68,18 +71,28 @@ pub fn push_if(columns: &mut Vec<Column>, kept: bool, column: Column) -> Result<
     Ok(())
 }
 
-/// Returns the first column in which a format shows the key of a row, such as the extension. A line of sums shows its name in this column.
-pub fn first_key(format: Format, by: Columns) -> Column
+/// Returns whether rows have the column of a key: all of these columns if `all` is true, and otherwise only those that rows are grouped by.
+/// The column of the directory is there only if rows are grouped by directory.
+fn shows_key(all: bool, by: Columns, key: Key) -> bool
+    ensures { result ≡ shows_key all by key }
+{
+    by.has(key) || all && !matches!(key, Key::Dir)
+}
+
+fn first_shown(all: bool, by: Columns) -> Option<&'static Key>
+    ensures { option_copied result ≡ find (shows_key all by) keys }
+{
+    KEYS.iter().find(|key| shows_key(all, by, **key))
+}
+
+/// Returns the first key in whose column a format shows the values of rows, such as the extension. A line of sums shows its name in this
+/// column.
+pub fn first_key(format: Format, by: Columns) -> Key
     ensures { result ≡ first_key (keeps_columns format) by }
 {
-    if by.dir.is_some() {
-        Column::Dir
-    } else if keeps_columns(format) || by.ext {
-        Column::Ext
-    } else if by.text {
-        Column::Text
-    } else {
-        Column::Eol
+    match first_shown(keeps_columns(format), by) {
+        Some(key) => *key,
+        None => Key::Eol,
     }
 }
 
@@ -93,15 +106,14 @@ fn share_columns(format: Format) -> &'static [Column]
     }
 }
 
-/// Adds the columns of the rows' keys: all of them if `all` is true, and otherwise only the columns that rows are grouped by. The column of
-/// the directory is added only if rows are grouped by directory.
+/// Adds the columns of the rows' keys, as [`first_key`] chooses the first of them: all if `all` is true.
 pub fn push_keys(columns: &mut Vec<Column>, all: bool, by: Columns) -> Result<(), AllocError>
     ensures { OnOk result (columns.new.items ≡ columns.old.items ++ key_columns all by) }
 {
-    push_if(columns, by.dir.is_some(), Column::Dir)?;
-    push_if(columns, all || by.ext, Column::Ext)?;
-    push_if(columns, all || by.text, Column::Text)?;
-    push_if(columns, all || by.eol, Column::Eol)
+    for key in &KEYS {
+        push_if(columns, shows_key(all, by, *key), Column::Key(*key))?;
+    }
+    Ok(())
 }
 
 fn push_shares(columns: &mut Vec<Column>, options: &TableOptions) -> Result<(), AllocError>
@@ -152,7 +164,7 @@ pub(crate) fn file_columns(
     match format {
         Format::Json | Format::Csv => {
             columns.push(Column::Path)?;
-            push_if(&mut columns, by.dir.is_some(), Column::Dir)?;
+            push_if(&mut columns, by.dir.is_some(), Column::Key(Key::Dir))?;
             columns.extend_from_slice(&RECORDED_FILES)?;
         }
         Format::Tsv | Format::Table | Format::Markdown => columns.extend_from_slice(&LISTED_FILES)?,

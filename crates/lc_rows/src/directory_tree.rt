@@ -44,10 +44,8 @@ fn part_at<'a, 's>(level: usize, row: &'s ShownRow<'a>) -> Part<'a, 's>
     ensures { result ≡ row_at level row.now }
 {
     let key = RowKeyRef {
-        directory: cut_at(level, row.directory),
-        extension: row.extension,
-        text: row.text,
-        eol: row.eol,
+        directory: cut_at(level, row.key.directory),
+        ..row.key.copied()
     };
     Part::shown(key, &row.sums)
 }
@@ -61,7 +59,7 @@ fn push_own<'a>(
     ensures { OnOk result (all.new.items ≡ all.old.items ++ map (own_row depth) rows.now) }
 {
     for row in rows {
-        all.push(ShownRow::of(&part_at(levels_above(depth, row.directory), row)))?;
+        all.push(ShownRow::of(&part_at(levels_above(depth, row.key.directory), row)))?;
     }
     Ok(())
 }
@@ -74,7 +72,7 @@ fn push_next<'a, 's>(
 ) -> Result<(), AllocError>
     ensures { OnOk result (parts.new.items ≡ parts.old.items ++ next_above depth row.now) }
 {
-    let Some(level) = levels_above(depth, row.directory).checked_sub(1) else {
+    let Some(level) = levels_above(depth, row.key.directory).checked_sub(1) else {
         return Ok(());
     };
     parts.push(part_at(level, row))?;
@@ -113,7 +111,7 @@ fn rows_above<'a>(
 fn height(depth: u32, row: &ShownRow<'_>) -> usize
     ensures { result ≡ height depth row.now }
 {
-    depth as usize - levels_above(depth, row.directory)
+    depth as usize - levels_above(depth, row.key.directory)
 }
 
 /// Sorts rows by their heights, the deepest first.
@@ -205,7 +203,7 @@ fn sort(rows: &mut Vec<ShownRow<'_>>)
     ensures same { IsPermutation rows.old.items rows.new.items }
     ensures order { IsSortedByKey row_key depth_first_cmp rows.new.items }
 {
-    rows.sort_unstable_by(|a, b| a.key().compare_depth_first(&b.key()));
+    rows.sort_unstable_by(|a, b| a.key.compare_depth_first(&b.key));
 }
 
 /// Returns a row for each directory that has files in it or below it, with the sums over these files. The rows are depth first: each

@@ -14,8 +14,9 @@ ghost use Rattle.lc_rows.specs.ShownRows.{part_of_row};
 
 use crate::directories::name_of;
 use crate::kinds::{Files, Rows};
+use crate::row_key::RowKeyRef;
 use crate::shown_row::ShownRow;
-use lc_sheet::{Column, Columns, Condition, Form, Lines, needs_files};
+use lc_sheet::{Columns, Condition, Form, Key, Lines, needs_files};
 use lc_walk::{ClassSums, FileLine, Report, Sums, Tally, TallyRow, extension, sums_of_rows};
 use std::alloc::{AllocError, Global};
 
@@ -25,7 +26,7 @@ fn whole_form() -> Form
 {
     Form {
         by: Columns::ALL,
-        first: Column::Ext,
+        first: Key::Ext,
         shares: None,
     }
 }
@@ -50,12 +51,8 @@ fn file_meets(conditions: &[Condition<'_>], file: &FileLine) -> bool
 fn shown_row(row: &TallyRow) -> ShownRow<'_>
     ensures { result ≡ part_of_row all_columns row.entry.now }
 {
-    let key = row.key();
     ShownRow {
-        directory: None,
-        extension: key.extension,
-        text: key.text,
-        eol: key.eol,
+        key: RowKeyRef::of(None, row.key()),
         sums: row.sums(),
     }
 }

@@ -97,14 +97,8 @@ fn key_in<'a>(by: Columns, key: KeyRef<'a>) -> KeyRef<'a>
 fn row_part<'a>(by: Columns, row: &'a TallyRow) -> Part<'a, 'a>
     ensures { result ≡ part_of_row by row.now }
 {
-    let key = key_in(by, row.key());
     Part {
-        key: RowKeyRef {
-            directory: None,
-            extension: key.extension,
-            text: key.text,
-            eol: key.eol,
-        },
+        key: RowKeyRef::of(None, key_in(by, row.key())),
         source: Source::Row(row),
     }
 }
@@ -123,12 +117,7 @@ fn file_part<'a>(by: Columns, depth: usize, file: &'a FileLine) -> Part<'a, 'a>
         },
     );
     Part {
-        key: RowKeyRef {
-            directory: Some(first_names(depth, parent)),
-            extension: key.extension,
-            text: key.text,
-            eol: key.eol,
-        },
+        key: RowKeyRef::of(Some(first_names(depth, parent)), key),
         source: Source::File(file),
     }
 }
@@ -171,7 +160,7 @@ pub(crate) fn push_shown<'a, 's>(
     ensures { OnOk result (parts.new.items ≡ parts.old.items ++ rows.entry.now) }
 {
     for row in rows {
-        parts.push(Part::shown(row.key(), &row.sums))?;
+        parts.push(Part::shown(row.key.copied(), &row.sums))?;
     }
     Ok(())
 }

@@ -3,14 +3,19 @@
 ghost use Rattle.std.specs.Prelude.{◌≡◌, option_map};
 ghost use Rattle.std.specs.Option.{option_cmp};
 ghost use Rattle.lc_tree.specs.ByteOrder.{bytes_cmp};
+ghost use Rattle.lc_sheet.specs.Values.{value_model};
+ghost use Rattle.lc_sheet.specs.declared.key.Key.TheVariants.{Dir, Ext};
 ghost use Rattle.lc_walk.specs.Key.{key_cmp};
+ghost use Rattle.lc_rows.specs.Kinds.{key_value};
 ghost use Rattle.lc_rows.specs.RowKeys.{row_key_cmp};
 ghost use Rattle.lc_rows.specs.TreeRows.{depth_first_cmp, path_cmp};
 
 use crate::depth_first::compare_paths;
+use crate::values::{directory_in, extension_value, text_value};
 use lc_census::Eol;
 use lc_rules::TextState;
-use lc_walk::{eol_rank, text_rank};
+use lc_sheet::{Key, Value};
+use lc_walk::{KeyRef, eol_rank, text_rank};
 use std::cmp::Ordering;
 use std::marker::Model;
 
@@ -40,7 +45,57 @@ impl<'a> Model for RowKeyRef<'a> {
     } };
 }
 
-impl RowKeyRef<'_> {
+impl<'a> RowKeyRef<'a> {
+    /// Makes the key of a row from a directory and from a key of the tally.
+    pub(crate) fn of(directory: Option<&'a [u8]>, key: KeyRef<'a>) -> RowKeyRef<'a>
+        ensures { result ≡ record { directory = option_map (λ s. s.now) directory.entry; key = key.entry } }
+    {
+        RowKeyRef {
+            directory,
+            extension: key.extension,
+            text: key.text,
+            eol: key.eol,
+        }
+    }
+
+    /// Returns the same key, with the same borrowed bytes.
+    pub fn copied(&self) -> RowKeyRef<'a>
+        ensures { result ≡ self.now }
+    {
+        RowKeyRef {
+            directory: self.directory,
+            extension: self.extension,
+            text: self.text,
+            eol: self.eol,
+        }
+    }
+
+    fn directory_value(&self) -> Value<'_>
+        ensures { value_model result ≡ key_value Dir self.now }
+    {
+        let directory = self.directory;
+        directory_in(directory)
+    }
+
+    fn extension_value(&self) -> Value<'_>
+        ensures { value_model result ≡ key_value Ext self.now }
+    {
+        let extension = self.extension;
+        extension_value(extension)
+    }
+
+    /// Returns the value of the row's files in the column of a key.
+    pub(crate) fn value(&self, key: Key) -> Value<'_>
+        ensures { value_model result ≡ key_value key self.now }
+    {
+        match key {
+            Key::Dir => self.directory_value(),
+            Key::Ext => self.extension_value(),
+            Key::Text => text_value(self.text),
+            Key::Eol => Value::Word(self.eol.as_str()),
+        }
+    }
+
     /// Compares two keys in the order of a table's rows: by directory, and then by the other columns.
     #[tactic(auto, unfolding(crate::specs::RowKeys::row_key_cmp))]
     pub fn compare(&self, other: &RowKeyRef<'_>) -> Ordering

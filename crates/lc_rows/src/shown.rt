@@ -2,7 +2,7 @@
 
 ghost use Rattle.std.specs.Prelude.{◌≡◌, IfOk};
 ghost use Rattle.std.specs.List.Sorted.{IsPermutation, IsSorted};
-ghost use Rattle.lc_rows.specs.ShownRows.{AreAddedUp, AreShown, AreSorted, AreSummed, keeps_all, number_in, parts_of, row_cmp};
+ghost use Rattle.lc_rows.specs.ShownRows.{AreAddedUp, AreShown, AreSorted, AreSummed, number_in, parts_of, row_cmp};
 
 use crate::adding_up::{added_up, rows_of};
 use crate::parts::parts_of;
@@ -11,12 +11,6 @@ use lc_sheet::{Columns, Number};
 use lc_walk::{FileLine, Sums, TallyRow};
 use std::alloc::{AllocError, Global};
 use std::cmp::Ordering;
-
-fn keeps_all(by: Columns) -> bool
-    ensures { result ≡ keeps_all by }
-{
-    by.dir.is_none() && by.ext && by.text && by.eol
-}
 
 fn summed<'a>(
     alloc: Global,
@@ -27,7 +21,7 @@ fn summed<'a>(
     ensures { IfOk result (λ summed. AreSummed by rows.entry.now files.entry.now summed.items) }
 {
     let parts = parts_of(alloc, rows, files, by)?;
-    if keeps_all(by) {
+    if by.are_all() {
         rows_of(alloc, &parts)
     } else {
         added_up(alloc, parts)
@@ -68,7 +62,7 @@ fn compare(by: Number, a: &ShownRow<'_>, b: &ShownRow<'_>) -> Ordering
     ensures { result ≡ row_cmp by a.now b.now }
 {
     match number_in(by, b.sums).cmp(&number_in(by, a.sums)) {
-        Ordering::Equal => a.key().compare(&b.key()),
+        Ordering::Equal => a.key.compare(&b.key),
         unequal => unequal,
     }
 }

@@ -2,7 +2,7 @@
 
 ghost use Rattle.std.specs.Prelude.{◌≡◌, option_map};
 ghost use Rattle.lc_sheet.specs.Values.{value_model};
-ghost use Rattle.lc_rows.specs.Kinds.{bar_value, bytes_value, directory_value, extension_value, kept_value, share_value, text_value};
+ghost use Rattle.lc_rows.specs.Kinds.{bar_value, bytes_value, directory_in, directory_value, extension_value, share_value, text_value};
 
 use crate::shown::number_in;
 use lc_rules::TextState;
@@ -49,6 +49,16 @@ pub(crate) fn directory_value(path: &[u8]) -> Value<'_>
         })
     } else {
         bytes_value(path)
+    }
+}
+
+/// Makes the value of files with or without a directory. Files without one are summed over directories.
+pub(crate) fn directory_in(directory: Option<&[u8]>) -> Value<'_>
+    ensures { value_model result ≡ directory_in (option_map (λ path. path.now) directory.entry) }
+{
+    match directory {
+        None => Value::Summed,
+        Some(path) => directory_value(path),
     }
 }
 

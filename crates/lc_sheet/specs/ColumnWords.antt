@@ -3,8 +3,9 @@ use Rattle.std.specs.Prelude.{ℕ, List, [], ◌++◌, codes}
 use Rattle.lc_sheet.specs.declared.column.{Number.{Number as NumberColumn, TheVariants.{Files, Lines, Blank, Bytes}}, Compared.Compared}
 use Rattle.lc_sheet.specs.declared.column.Side.{Side, TheVariants.{Left, Right, End}}
 use Rattle.lc_sheet.specs.declared.column.Column.{Column}
-use Rattle.lc_sheet.specs.declared.column.Column.TheVariants.{Dir, Ext, Text, Eol, Number, Share, Bar, Path, Kind, Reason, Place, Entry}
-use Rattle.lc_sheet.specs.declared.column.Column.TheVariants.{File, Line, Attribute, Fault, Site, Change, Old, New, Difference}
+use Rattle.lc_sheet.specs.declared.column.Column.TheVariants.{Key, Number, Share, Bar, Path, Kind, Reason, Place, Entry, File}
+use Rattle.lc_sheet.specs.declared.column.Column.TheVariants.{Line, Attribute, Fault, Site, Change, Old, New, Difference}
+use Rattle.lc_sheet.specs.Keys.{key_name}
 use Rattle.lc_sheet.specs.declared.column.Compared.TheVariants as compared
 
 abbrev pub number_name : NumberColumn → List ℕ
@@ -13,10 +14,14 @@ number_name Lines = codes "lines"
 number_name Blank = codes "blank"
 number_name Bytes = codes "bytes"
 
+-- the column of a compared value in a table of one report
+abbrev pub compared_column : Compared → Column
+compared_column (compared.Key k) = Key k
+compared_column (compared.Number n) = Number n
+
 -- the name of a compared value; its names in the old report and in the new one are below
 abbrev pub compared_name : Compared → List ℕ
-compared_name compared.Text = codes "text"
-compared_name compared.Eol = codes "eol"
+compared_name (compared.Key k) = key_name k
 compared_name (compared.Number n) = number_name n
 
 abbrev pub old_name : Compared → List ℕ
@@ -30,10 +35,7 @@ difference_name n = number_name n ++ codes "_change"
 
 -- the name of a column in the formats that programs read
 abbrev pub column_name : Column → List ℕ
-column_name Dir = codes "dir"
-column_name Ext = codes "ext"
-column_name Text = codes "text"
-column_name Eol = codes "eol"
+column_name (Key k) = key_name k
 column_name (Number n) = number_name n
 column_name Share = codes "share"
 column_name Bar = codes "bar"

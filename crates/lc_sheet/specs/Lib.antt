@@ -1,3 +1,4 @@
+pub mod Keys
 pub mod ColumnWords
 pub mod Values
 pub mod Sheets

@@ -1,8 +1,10 @@
 //! The columns of a sheet, with their names, their headings and the sides at which values are aligned.
 
 ghost use Rattle.std.specs.Prelude.{◌≡◌};
-ghost use Rattle.lc_sheet.specs.ColumnWords.{column_name, compared_name, difference_name, heading, new_name, number_name, old_name};
+ghost use Rattle.lc_sheet.specs.ColumnWords.{column_name, compared_column, compared_name, difference_name, heading, new_name, number_name, old_name};
 ghost use Rattle.lc_sheet.specs.ColumnWords.{side_of};
+
+use crate::key::Key;
 
 /// One of the numbers that a row or a file has. Rows and files can be sorted by one of these numbers, largest first.
 #[derive(Debug, Clone, Copy, PartialEq, Eq)]
@@ -17,14 +19,11 @@ pub enum Number {
     Bytes,
 }
 
-/// Which value is compared in two reports. For a file, the value is a word (`Text` or `Eol`) or a number. For a row, the value is always a
-/// number.
+/// Which value is compared in two reports. For a file, the value is that of a key, or a number. For a row, the value is always a number.
 #[derive(Debug, Clone, Copy, PartialEq, Eq)]
 pub enum Compared {
-    /// The state of the Git attribute `text` for the file.
-    Text,
-    /// How the file's lines end.
-    Eol,
+    /// The value of a key, such as how the file's lines end.
+    Key(Key),
     /// One of the numbers of a file or of a row.
     Number(Number),
 }
@@ -43,14 +42,8 @@ pub enum Side {
 /// A column of a sheet. Each section of the sheet, such as the rows, has some of these columns.
 #[derive(Debug, Clone, Copy, PartialEq, Eq)]
 pub enum Column {
-    /// The directory of the files.
-    Dir,
-    /// The extension of the files' names.
-    Ext,
-    /// The state of the Git attribute `text` for the files.
-    Text,
-    /// How the files' lines end.
-    Eol,
+    /// What the files have in common, such as their extension.
+    Key(Key),
     /// One of the numbers of a row or of a file.
     Number(Number),
     /// The line's share of the total.
@@ -102,13 +95,22 @@ impl Number {
 }
 
 impl Compared {
+    /// Returns the column of the compared value in a table of one report.
+    pub fn column(self) -> Column
+        ensures { result ≡ compared_column self }
+    {
+        match self {
+            Compared::Key(key) => Column::Key(key),
+            Compared::Number(number) => Column::Number(number),
+        }
+    }
+
     /// Returns the name of the compared column, such as `eol` or `lines`.
     pub fn name(self) -> &'static str
         ensures { result.now ≡ compared_name self }
     {
         match self {
-            Compared::Text => "text",
-            Compared::Eol => "eol",
+            Compared::Key(key) => key.name(),
             Compared::Number(number) => number.name(),
         }
     }
@@ -117,8 +119,7 @@ impl Compared {
         ensures { result.now ≡ old_name self }
     {
         match self {
-            Compared::Text => "old_text",
-            Compared::Eol => "old_eol",
+            Compared::Key(key) => key.old_name(),
             Compared::Number(Number::Files) => "old_files",
             Compared::Number(Number::Lines) => "old_lines",
             Compared::Number(Number::Blank) => "old_blank",
@@ -130,8 +131,7 @@ impl Compared {
         ensures { result.now ≡ new_name self }
     {
         match self {
-            Compared::Text => "new_text",
-            Compared::Eol => "new_eol",
+            Compared::Key(key) => key.new_name(),
             Compared::Number(Number::Files) => "new_files",
             Compared::Number(Number::Lines) => "new_lines",
             Compared::Number(Number::Blank) => "new_blank",
@@ -157,10 +157,7 @@ impl Column {
         ensures { result.now ≡ column_name self }
     {
         match self {
-            Column::Dir => "dir",
-            Column::Ext => "ext",
-            Column::Text => "text",
-            Column::Eol => "eol",
+            Column::Key(key) => key.name(),
             Column::Number(number) => number.name(),
             Column::Share => "share",
             Column::Bar => "bar",

@@ -1,7 +1,8 @@
 //! How a section shows its lines: what rows are grouped by, in which column a line of sums has its word, such as `total`, and what shares
 //! are computed from.
 
-use crate::column::{Column, Number};
+use crate::column::Number;
+use crate::key::Key;
 use crate::table_options::Columns;
 
 /// What shares and bars are computed from: the total of one number, such as lines, and its largest value in a shown row.
@@ -21,8 +22,8 @@ pub struct Shares {
 pub struct Form {
     /// The columns that rows are grouped by.
     pub by: Columns,
-    /// The column that shows the name of a line of sums, such as `total`.
-    pub first: Column,
+    /// The key in whose column a line of sums has its name, such as `total`.
+    pub first: Key,
     /// What the shares and bars are computed from, if lines show shares.
     pub shares: Option<Shares>,
 }

@@ -1,6 +1,7 @@
 //! The sheet of a report: what every format shows of the report, as sections of lines with a value in each column. The crate also has the
 //! options of a table.
 //!
+//! - `key`: the keys by which rows are grouped, such as the extension
 //! - `column`: the columns of a sheet
 //! - `value`: the value of a line in a column
 //! - `form`: what rows are grouped by, in which column a line of sums has its name, and what shares are computed from
@@ -14,6 +15,7 @@
 mod column;
 mod condition;
 mod form;
+mod key;
 mod lines;
 mod section;
 mod sheet;
@@ -23,6 +25,7 @@ mod value;
 pub use column::{Column, Compared, Number, Side};
 pub use condition::{Comparison, Condition, Test, needs_files};
 pub use form::{Form, Shares};
+pub use key::{KEYS, Key, REPORT_KEYS};
 pub use lines::Lines;
 pub use section::Section;
 pub use sheet::Sheet;

@@ -1,10 +1,12 @@
 //! The options of a table: its format, its columns, its order, where it is cut, and which files it shows.
 
 ghost use Rattle.std.specs.Prelude.{◌≡◌};
+ghost use Rattle.lc_sheet.specs.Keys.{are_all, has_key, with_key};
 ghost use Rattle.lc_sheet.specs.Sheets.{sheet_format};
 
 use crate::column::Number;
 use crate::condition::Condition;
+use crate::key::Key;
 
 /// The format in which the text of a table is written.
 #[derive(Debug, Clone, Copy, PartialEq, Eq)]
@@ -64,6 +66,48 @@ impl Columns {
         text: true,
         eol: true,
     };
+
+    /// No columns.
+    pub const NONE: Columns = Columns {
+        dir: None,
+        ext: false,
+        text: false,
+        eol: false,
+    };
+
+    /// Returns these columns and that of one more key. Directories are cut after `depth` names.
+    pub fn with(self, key: Key, depth: u32) -> Columns
+        ensures { result ≡ with_key key depth self }
+    {
+        match key {
+            Key::Dir => Columns {
+                dir: Some(depth),
+                ..self
+            },
+            Key::Ext => Columns { ext: true, ..self },
+            Key::Text => Columns { text: true, ..self },
+            Key::Eol => Columns { eol: true, ..self },
+        }
+    }
+
+    /// Returns whether rows are grouped by all keys of a report's rows, and by no other, so that no rows are added up.
+    pub fn are_all(self) -> bool
+        ensures { result ≡ are_all self }
+    {
+        self.dir.is_none() && self.ext && self.text && self.eol
+    }
+
+    /// Returns whether rows are grouped by the key.
+    pub fn has(self, key: Key) -> bool
+        ensures { result ≡ has_key self key }
+    {
+        match key {
+            Key::Dir => self.dir.is_some(),
+            Key::Ext => self.ext,
+            Key::Text => self.text,
+            Key::Eol => self.eol,
+        }
+    }
 }
 
 /// An order of a table's rows and files, as the option `--sort` requests it.

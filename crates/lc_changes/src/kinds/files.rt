@@ -1,7 +1,7 @@
 //! The lines of a comparison's sheet that show files: which value a file has in each column.
 
 ghost use Rattle.std.specs.Prelude.{◌≡◌, option_map};
-ghost use Rattle.lc_changes.specs.ChangeValues.{column_of, file_change_value, shared_value, side_value};
+ghost use Rattle.lc_changes.specs.ChangeValues.{file_change_value, shared_value, side_value};
 ghost use Rattle.lc_sheet.specs.Values.{value_model};
 
 use crate::file_change::{FileChange, side_number};
@@ -17,24 +17,13 @@ pub struct FileChanges<'a> {
     files: PhantomData<&'a ()>,
 }
 
-/// Returns the column of a single report that has the compared value.
-fn column_of(compared: Compared) -> Column
-    ensures { result ≡ column_of compared }
-{
-    match compared {
-        Compared::Text => Column::Text,
-        Compared::Eol => Column::Eol,
-        Compared::Number(number) => Column::Number(number),
-    }
-}
-
 /// Returns the compared value of a file in one report. The value is `Missing` if the report lacks the file.
 fn side_value(form: Form, file: Option<&FileLine>, compared: Compared) -> Value<'_>
     ensures { value_model result ≡ side_value form (option_map (λ f. f.now) file.entry) compared }
 {
     match file {
         None => Value::Missing,
-        Some(file) => Files::value(file, form, column_of(compared)),
+        Some(file) => Files::value(file, form, compared.column()),
     }
 }
 

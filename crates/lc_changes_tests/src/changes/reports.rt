@@ -35,10 +35,8 @@ pub(super) const NEW: &[File] = &[
 ];
 
 pub(super) const BY_EXTENSION: Columns = Columns {
-    dir: None,
     ext: true,
-    text: false,
-    eol: false,
+    ..Columns::NONE
 };
 
 pub(super) const TSV: ChangeOptions = ChangeOptions {

@@ -5,7 +5,7 @@ ghost use Rattle.std.specs.Prelude.{◌≡◌, true};
 use crate::samples::{Sample, Samples, Version};
 use lc_changes::{ChangeOptions, ShownChanges};
 use lc_formats::text;
-use lc_sheet::{Column, Columns, Form, Format, Section, Sheet};
+use lc_sheet::{Column, Columns, Form, Format, Key, Section, Sheet};
 use lc_walk::{Findings, Report, ReportLists, Tally};
 use std::alloc::{AllocError, Global};
 use std::process::Abort;
@@ -35,12 +35,10 @@ pub(super) struct Case<'a> {
 
 const FORM: Form = Form {
     by: Columns {
-        dir: None,
         ext: true,
-        text: false,
-        eol: false,
+        ..Columns::NONE
     },
-    first: Column::Ext,
+    first: Key::Ext,
     shares: None,
 };
 

@@ -13,9 +13,7 @@ const HEADER: &[u8] = b"dir\text\ttext\teol\tfiles\tlines\tblank\tbytes\n";
 const BY_DIR: TableOptions = TableOptions {
     by: Columns {
         dir: Some(1),
-        ext: false,
-        text: false,
-        eol: false,
+        ..Columns::NONE
     },
     ..TSV
 };
@@ -25,8 +23,7 @@ const BY_TWO: TableOptions = TableOptions {
     by: Columns {
         dir: Some(2),
         ext: true,
-        text: false,
-        eol: false,
+        ..Columns::NONE
     },
     sort: Some(Number::Lines),
     top: Some(2),

@@ -69,10 +69,8 @@ const EMPTY: Case = Case {
 
 const BY_TEXT: TableOptions = TableOptions {
     by: Columns {
-        dir: None,
-        ext: false,
         text: true,
-        eol: false,
+        ..Columns::NONE
     },
     ..JSON
 };

@@ -31,10 +31,8 @@ const CASES: &[Case] = &[
         name: "markup_in_names",
         options: TableOptions {
             by: Columns {
-                dir: None,
                 ext: true,
-                text: false,
-                eol: false,
+                ..Columns::NONE
             },
             files: true,
             ..MARKDOWN
@@ -81,10 +79,8 @@ const CASES: &[Case] = &[
         name: "addresses_and_blanks_in_names",
         options: TableOptions {
             by: Columns {
-                dir: None,
                 ext: true,
-                text: false,
-                eol: false,
+                ..Columns::NONE
             },
             files: true,
             ..MARKDOWN

@@ -62,12 +62,7 @@ const CASES: &[Case] = &[
     Case {
         name: "no_columns_and_no_others",
         options: TableOptions {
-            by: Columns {
-                dir: None,
-                ext: false,
-                text: false,
-                eol: false,
-            },
+            by: Columns::NONE,
             top: Some(0),
             ..CSV
         },

@@ -32,12 +32,7 @@ const SUMMED: Case = Case {
 const NO_ROWS: &[Case] = &[Case {
     name: "no_rows",
     options: TableOptions {
-        by: Columns {
-            dir: None,
-            ext: false,
-            text: false,
-            eol: false,
-        },
+        by: Columns::NONE,
         sort: Some(Number::Bytes),
         ..TSV
     },

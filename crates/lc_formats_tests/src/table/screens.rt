@@ -85,17 +85,13 @@ const LISTED: Case = Case {
 };
 
 const BY_TEXT: Columns = Columns {
-    dir: None,
-    ext: false,
     text: true,
-    eol: false,
+    ..Columns::NONE
 };
 
 const BY_EOL: Columns = Columns {
-    dir: None,
-    ext: false,
-    text: false,
     eol: true,
+    ..Columns::NONE
 };
 
 const CASES: &[Case] = &[

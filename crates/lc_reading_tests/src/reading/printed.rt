@@ -19,17 +19,13 @@ const ROWS: TableOptions = TableOptions {
 };
 
 pub(super) const BY_EXT: Columns = Columns {
-    dir: None,
     ext: true,
-    text: false,
-    eol: false,
+    ..Columns::NONE
 };
 
 const BY_EOL: Columns = Columns {
-    dir: None,
-    ext: false,
-    text: false,
     eol: true,
+    ..Columns::NONE
 };
 
 /// The JSON text of a report, the columns that its rows are grouped by, and whether its files are listed.

@@ -1,15 +1,14 @@
 //! Tests of what a table needs of the reports that are summed.
 
 use lc_reports::Needs;
-use lc_sheet::{Column, Columns, Comparison, Condition, Number, Test};
+use lc_sheet::{Column, Columns, Comparison, Condition, Key, Number, Test};
 use std::process::Abort;
 use std::test::Fail;
 
 const BY_DIRECTORY: Columns = Columns {
     dir: Some(1),
-    ext: false,
     text: true,
-    eol: false,
+    ..Columns::NONE
 };
 
 fn among(column: Column) -> Condition<'static> {
@@ -43,11 +42,11 @@ fn columns_are_needed(rt: HostRuntime) -> Result<(), Fail> {
 
 #[test]
 fn conditions_need_columns(rt: HostRuntime) -> Result<(), Fail> {
-    let ext = Needs::of(None, &[among(Column::Ext)], false, false);
+    let ext = Needs::of(None, &[among(Column::Key(Key::Ext))], false, false);
     assert!(rt; ext.columns == columns(true, false, true) && !ext.files);
-    let text = Needs::of(None, &[among(Column::Text)], false, false);
+    let text = Needs::of(None, &[among(Column::Key(Key::Text))], false, false);
     assert!(rt; text.columns == columns(false, true, true));
-    let eol = Needs::of(None, &[among(Column::Eol)], false, false);
+    let eol = Needs::of(None, &[among(Column::Key(Key::Eol))], false, false);
     assert!(rt; eol.columns == columns(false, false, true));
     let number = Condition {
         column: Column::Number(Number::Lines),

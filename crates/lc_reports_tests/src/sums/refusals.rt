@@ -3,20 +3,13 @@
 use crate::sums::reading::{Text, parts_of};
 use crate::sums::texts::{BY_EOL, BY_EXT, FILES, LARGEST, SKIPPED};
 use lc_reports::{Needs, SumFault, summed};
-use lc_sheet::{Column, Columns};
+use lc_sheet::Columns;
 use std::alloc::{AllocError, Global};
 use std::process::Abort;
 use std::test::Fail;
 
-const NO_COLUMNS: Columns = Columns {
-    dir: None,
-    ext: false,
-    text: false,
-    eol: false,
-};
-
 const NOTHING: Needs = Needs {
-    columns: NO_COLUMNS,
+    columns: Columns::NONE,
     some_column: false,
     files: false,
     left_out: false,
@@ -25,7 +18,7 @@ const NOTHING: Needs = Needs {
 const EXT: Needs = Needs {
     columns: Columns {
         ext: true,
-        ..NO_COLUMNS
+        ..Columns::NONE
     },
     ..NOTHING
 };
@@ -34,7 +27,7 @@ const TEXT_AND_EOL: Needs = Needs {
     columns: Columns {
         text: true,
         eol: true,
-        ..NO_COLUMNS
+        ..Columns::NONE
     },
     ..NOTHING
 };
@@ -42,7 +35,7 @@ const TEXT_AND_EOL: Needs = Needs {
 const EOL: Needs = Needs {
     columns: Columns {
         eol: true,
-        ..NO_COLUMNS
+        ..Columns::NONE
     },
     ..NOTHING
 };
@@ -124,23 +117,14 @@ const CASES: &[Case] = &[
     (NOTHING, &[], ""),
 ];
 
-fn column_name(column: Column) -> &'static str {
-    match column {
-        Column::Ext => "ext",
-        Column::Text => "text",
-        Column::Eol => "eol",
-        _ => "another column",
-    }
-}
-
 /// Returns the error message about these reports, or an empty one if they are summed.
 fn said_of(alloc: Global, needs: Needs, texts: &[Text]) -> Result<String, AllocError> {
     let parts = parts_of(alloc, texts)?;
     match summed(alloc, parts, needs) {
         Ok(_) => Ok(String::new(alloc)),
         Err(SumFault::Memory) => Err(AllocError),
-        Err(SumFault::NoColumn(origin, column)) => {
-            format!(in alloc; "{origin} has no {}", column_name(column))
+        Err(SumFault::NoColumn(origin, key)) => {
+            format!(in alloc; "{origin} has no {}", key.name())
         }
         Err(SumFault::NoSharedColumn) => String::from_str(alloc, "no column"),
         Err(SumFault::NoFiles(origin)) => format!(in alloc; "{origin} has no files"),

@@ -89,10 +89,8 @@ fn columns_of_some_reports_are_not_shared(rt: HostRuntime) -> Result<(), Fail> {
         return Ok(());
     };
     let ext = Columns {
-        dir: None,
         ext: true,
-        text: false,
-        eol: false,
+        ..Columns::NONE
     };
     assert!(rt; sum.columns == ext);
     assert!(rt; sum.totals == sums([4, 14, 3, 90]));
@@ -106,12 +104,7 @@ fn columns_of_some_reports_are_not_shared(rt: HostRuntime) -> Result<(), Fail> {
 
 #[test]
 fn binary_files_are_summed_without_rows(rt: HostRuntime) -> Result<(), Fail> {
-    let by_nothing = Columns {
-        dir: None,
-        ext: false,
-        text: false,
-        eol: false,
-    };
+    let by_nothing = Columns::NONE;
     let needs = Needs::of(Some(by_nothing), &[], false, false);
     let sum = sum_of(rt.alloc(), needs, &[("a", BY_EXT), ("b", BY_EOL)])?;
     let Some(sum) = sum else {

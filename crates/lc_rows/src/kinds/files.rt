@@ -1,25 +1,40 @@
 //! The lines of a report's sheet that show files: which value a file has in each column.
 
-ghost use Rattle.std.specs.Prelude.{◌≡◌};
+ghost use Rattle.std.specs.Prelude.{◌≡◌, option_map};
 ghost use Rattle.lc_sheet.specs.Values.{value_model};
-ghost use Rattle.lc_rows.specs.Kinds.{file_value, file_directory};
+ghost use Rattle.lc_rows.specs.Directories.{directory_of};
+ghost use Rattle.lc_rows.specs.Kinds.{file_value, key_value};
+ghost use Rattle.lc_rows.specs.ShownRows.{whole_key};
 
 use crate::directories::{directory_at, name_of};
 use crate::files::number_of;
-use crate::values::{directory_value, extension_value, text_value};
-use lc_sheet::{Column, Form, Lines, Value};
+use crate::values::{directory_in, extension_value, text_value};
+use lc_sheet::{Column, Form, Key, Lines, Value};
 use lc_walk::{FileLine, extension};
 
 /// Says which value a counted file has in each column of a sheet. The struct is empty: it only implements `Lines` for files.
 #[derive(Drop)]
 pub struct Files {}
 
-fn file_directory(depth: Option<u32>, path: &[u8]) -> Value<'_>
-    ensures { value_model result ≡ file_directory depth path.entry.now }
+/// Returns the directory of a file, cut after `depth` names, or none if there is no depth.
+fn directory_to(depth: Option<u32>, path: &[u8]) -> Option<&[u8]>
+    ensures { option_map (λ directory. directory.now) result ≡ option_map (λ n. directory_of n path.entry.now) depth }
 {
     match depth {
-        None => Value::Summed,
-        Some(depth) => directory_value(directory_at(depth, path)),
+        None => None,
+        Some(depth) => Some(directory_at(depth, path)),
+    }
+}
+
+/// Returns the value of a file in the column of a key.
+fn key_value(file: &FileLine, depth: Option<u32>, key: Key) -> Value<'_>
+    ensures { value_model result ≡ key_value key (whole_key depth file.entry.now) }
+{
+    match key {
+        Key::Dir => directory_in(directory_to(depth, &file.path)),
+        Key::Ext => extension_value(extension(name_of(&file.path))),
+        Key::Text => text_value(file.text),
+        Key::Eol => Value::Word(file.count.eol.as_str()),
     }
 }
 
@@ -31,10 +46,7 @@ impl Lines for Files {
     #[inline(always)]
     fn value<'l>(line: &'l FileLine, form: Form, column: Column) -> Value<'l> {
         match column {
-            Column::Dir => file_directory(form.by.dir, &line.path),
-            Column::Ext => extension_value(extension(name_of(&line.path))),
-            Column::Text => text_value(line.text),
-            Column::Eol => Value::Word(line.count.eol.as_str()),
+            Column::Key(key) => key_value(line, form.by.dir, key),
             Column::Number(number) => Value::Number(u128::from(number_of(number, line))),
             Column::Path => Value::Path(&line.path),
             _ => Value::Blank,

@@ -6,7 +6,7 @@ ghost use Rattle.lc_rows.specs.Kinds.{sums_value, named_in};
 
 use crate::shown::number_in;
 use crate::values::{bar_value, share_value};
-use lc_sheet::{Column, Form, Lines, Value};
+use lc_sheet::{Column, Form, Key, Lines, Value};
 use lc_walk::Sums;
 use std::marker::Model;
 
@@ -32,16 +32,14 @@ impl Model for NamedSums {
 #[derive(Drop)]
 pub struct Totals {}
 
-/// Makes the value of a line of sums in a column of keys: the line's name in the column `first`, and `Summed` in the others.
-fn named_in<'l>(first: Column, column: Column, name: &'static str) -> Value<'l>
-    ensures { value_model result ≡ named_in first column name.now }
+/// Makes the value of a line of sums in the column of a key: the line's name in the column of `first`, and `Summed` in the others.
+fn named_in<'l>(first: Key, key: Key, name: &'static str) -> Value<'l>
+    ensures { value_model result ≡ named_in first key name.now }
 {
-    match (first, column) {
-        (Column::Dir, Column::Dir)
-        | (Column::Ext, Column::Ext)
-        | (Column::Text, Column::Text)
-        | (Column::Eol, Column::Eol) => Value::Word(name),
-        _ => Value::Summed,
+    if first == key {
+        Value::Word(name)
+    } else {
+        Value::Summed
     }
 }
 
@@ -52,9 +50,7 @@ impl Lines for Totals {
 
     fn value<'l>(line: &'l NamedSums, form: Form, column: Column) -> Value<'l> {
         match column {
-            Column::Dir | Column::Ext | Column::Text | Column::Eol => named_in(
-                form.first, column, line.name,
-            ),
+            Column::Key(key) => named_in(form.first, key, line.name),
             Column::Number(number) => Value::Number(number_in(number, line.sums)),
             Column::Share => share_value(form.shares, line.sums),
             _ => Value::Blank,

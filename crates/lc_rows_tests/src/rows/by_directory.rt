@@ -170,7 +170,7 @@ fn rows_of_all_columns_are_added_up_by_key(rt: HostRuntime) -> Result<(), Fail> 
     ];
     let added = added_rows(rt.alloc(), &rows, &[], Columns::ALL)?;
     let found = match added.as_slice() {
-        [lf, crlf] => lf.eol == Eol::Lf && lf.sums.files == 1 && crlf.sums.files == 5,
+        [lf, crlf] => lf.key.eol == Eol::Lf && lf.sums.files == 1 && crlf.sums.files == 5,
         _ => false,
     };
     assert!(rt; found);

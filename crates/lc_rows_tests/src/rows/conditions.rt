@@ -4,7 +4,7 @@ use crate::rows::files::{File, NONE, file_lines};
 use lc_census::Eol;
 use lc_rows::{keep, name_of};
 use lc_rules::TextState;
-use lc_sheet::{Column, Comparison, Condition, Number, Test};
+use lc_sheet::{Column, Comparison, Condition, Key, Number, Test};
 use lc_walk::{FileLine, Findings, Report, ReportLists, Tally, extension};
 use std::alloc::{AllocError, Global};
 use std::process::Abort;
@@ -76,12 +76,12 @@ fn check(
 }
 
 const C: Condition<'static> = Condition {
-    column: Column::Ext,
+    column: Column::Key(Key::Ext),
     test: Test::OneOf(b".c"),
 };
 
 const NOT_C: Condition<'static> = Condition {
-    column: Column::Ext,
+    column: Column::Key(Key::Ext),
     test: Test::NoneOf(b".c"),
 };
 
@@ -96,7 +96,7 @@ const SHORT: Condition<'static> = Condition {
 };
 
 const NOT_BINARY: Condition<'static> = Condition {
-    column: Column::Eol,
+    column: Column::Key(Key::Eol),
     test: Test::NoneOf(b"nul"),
 };
 

@@ -17,9 +17,7 @@ pub(super) type Row = (&'static [u8], Option<&'static [u8]>, Eol, [u64; 4]);
 
 pub(super) const BY_DIRECTORY: Columns = Columns {
     dir: Some(1),
-    ext: false,
-    text: false,
-    eol: false,
+    ..Columns::NONE
 };
 
 pub(super) fn sums([files, lines, blank, bytes]: [u64; 4]) -> Sums {
@@ -55,9 +53,9 @@ pub(super) fn file_lines(alloc: Global, files: &[File]) -> Result<Vec<FileLine>,
 
 fn is_row(row: &ShownRow<'_>, want: &Row) -> bool {
     let (directory, extension, eol, numbers) = *want;
-    row.directory == Some(directory)
-        && row.extension == extension
-        && row.eol == eol
+    row.key.directory == Some(directory)
+        && row.key.extension == extension
+        && row.key.eol == eol
         && row.sums == sums(numbers)
 }
 

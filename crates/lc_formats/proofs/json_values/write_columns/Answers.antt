@@ -1,7 +1,8 @@
 use Rattle.std.proofs.{Common.{List, ◌++◌, get_or, take_all, ap, ◌∙◌}, lemmas.List.get_or_default}
 use Rattle.std.specs.List.{flat_map}
 use Rattle.json.specs.Token.{Token}
-use Rattle.lc_sheet.specs.declared.column.Column.{Column, TheVariants.Dir}
+use Rattle.lc_sheet.specs.declared.column.Column.{Column, TheVariants.Key}
+use Rattle.lc_sheet.specs.declared.key.Key.TheVariants.{Dir}
 use Rattle.lc_formats.specs.{JsonLines.value_members, JsonTokens.members_tokens_of}
 use Rattle.lc_formats.proofs.{Listed.one_written, Tokens.line_tokens}
 use Rattle.lc_formats.proofs.json_values.write_columns.Goals as goal
@@ -12,8 +13,8 @@ loop-column-preserved g c =
     let i = c.loop-column.column-index in
     let within = c.loop-column-test.true in
     one_written (λ (x : Column). members_tokens_of (value_members x (g.L.Lines.value_in c.args.form c.args.line.now x)))
-    columns i (get_or columns i Dir) c.args.text.now c.loop-column.text c.write_column.new.text
-    within (get_or_default columns i Dir (get_or columns i Dir) within) c.loop-column.invariant c.in_ok-write_column.ensures
+    columns i (get_or columns i (Key Dir)) c.args.text.now c.loop-column.text c.write_column.new.text
+    within (get_or_default columns i (Key Dir) (get_or columns i (Key Dir)) within) c.loop-column.invariant c.in_ok-write_column.ensures
 
 pub returns : goal.returns
 returns g c =
