@@ -11,14 +11,14 @@ _lc_columns() {
 # The options of command $1: made by tools/options
 _lc_options() {
   case $1 in
-    count) echo --exclude --exclude-from --include --no-ignore --archive --without --only --only-from --null -0 \
-      --one-file-system -x --files --left-out --where --no-binary --format --by --depth --sort --top --share \
+    count) echo --exclude --exclude-from --include --no-ignore --archive --without --attributes-from --only --only-from \
+      --null -0 --one-file-system -x --files --left-out --where --no-binary --format --by --depth --sort --top --share \
       --fail-if-any --threads -j --max-dirs ;;
     sum) echo --files --left-out --where --no-binary --format --by --depth --sort --top --share --fail-if-any ;;
-    diff) echo --exclude --exclude-from --include --no-ignore --archive --without --only --only-from --null -0 \
-      --one-file-system -x --where --no-binary --depth --top --threads -j --max-dirs --all --files --format --by --sort \
-      --fail-if-any ;;
-    explain) echo --exclude --exclude-from --include --no-ignore --archive --without --null -0 ;;
+    diff) echo --exclude --exclude-from --include --no-ignore --archive --without --attributes-from --only --only-from \
+      --null -0 --one-file-system -x --where --no-binary --depth --top --threads -j --max-dirs --all --files --format \
+      --by --sort --fail-if-any ;;
+    explain) echo --exclude --exclude-from --include --no-ignore --archive --without --attributes-from --null -0 ;;
     check) echo --explain --null -0 ;;
   esac
 }
@@ -30,6 +30,7 @@ _lc_value() {
     --exclude-from) mapfile -t COMPREPLY < <(compgen -f -- "$2") ;;
     --include) ;;
     --without) mapfile -t COMPREPLY < <(compgen -W 'linguist-vendored linguist-generated linguist-documentation' -- "$2") ;;
+    --attributes-from) mapfile -t COMPREPLY < <(compgen -f -- "$2") ;;
     --only) mapfile -t COMPREPLY < <(compgen -f -- "$2") ;;
     --only-from) mapfile -t COMPREPLY < <(compgen -f -- "$2") ;;
     --where) ;;

@@ -37,6 +37,7 @@ complete -c lc -n '__lc_command_is count diff explain' -l include -x -d 'Count o
 complete -c lc -n '__lc_command_is count diff explain' -l no-ignore -d 'Read no .gitignore'
 complete -c lc -n '__lc_command_is count diff explain' -l archive -d 'Skip what has the attribute export-ignore'
 complete -c lc -n '__lc_command_is count diff explain' -l without -x -a 'linguist-vendored linguist-generated linguist-documentation' -d 'Skip what has this attribute'
+complete -c lc -n '__lc_command_is count diff explain' -l attributes-from -r -F -d 'Read attributes in FILE, too'
 complete -c lc -n '__lc_command_is count diff' -l only -r -F -d 'Count only what is at or under PATH'
 complete -c lc -n '__lc_command_is count diff' -l only-from -r -F -d 'Count only the paths that FILE lists'
 complete -c lc -n '__lc_command_is count diff' -l null -s 0 -d 'Paths that are read end with NUL'

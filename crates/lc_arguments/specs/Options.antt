@@ -96,6 +96,7 @@ options =
     ∷ option (codes "no-ignore") None Flag None filters
     ∷ option (codes "archive") None Flag None filters
     ∷ option (codes "without") None Texts None filters
+    ∷ option (codes "attributes-from") None Text None filters
     ∷ option (codes "only") None Texts None walks
     ∷ option (codes "only-from") None Text None walks
     ∷ option (codes "null") (Some 48) Flag None walks

@@ -107,6 +107,7 @@ AreDirectoriesOf rows directories =
 -- these are the filters that the options request
 pub record AreFiltersOf (rows : List Row) (e : FilterRequest) : Type 0 where
   pub exclude_from : option_map (λ s. s.now) e.exclude_from ≡ first_of (codes "exclude-from") rows
+  pub attributes_from : option_map (λ s. s.now) e.attributes_from ≡ first_of (codes "attributes-from") rows
   pub archive : IsFlag (codes "archive") rows e.archive
   pub without : AreValuesOf rows Attributes e.without.items
   pub exclude : AreValuesOf rows Excluded e.exclude.items

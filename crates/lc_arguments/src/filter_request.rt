@@ -15,6 +15,8 @@ use std::alloc::Global;
 pub struct FilterRequest<'w> {
     /// The path of an ignore file for the whole tree, as it was typed: relative to the directory that the program runs in.
     pub exclude_from: Option<&'w str>,
+    /// The path of an attribute file for the whole tree, as it was typed: relative to the directory that the program runs in.
+    pub attributes_from: Option<&'w str>,
     /// Skip entries that have the attribute `export-ignore`.
     pub archive: bool,
     /// Skip entries that have one of these attributes. `ATTR` requires that the attribute is set, and `ATTR=VALUE` that it has exactly this
@@ -52,6 +54,7 @@ impl<'w> FilterRequest<'w> {
         };
         Ok(FilterRequest {
             exclude_from: matches.get_str("exclude-from"),
+            attributes_from: matches.get_str("attributes-from"),
             archive: matches.get_flag("archive"),
             without,
             exclude,

@@ -48,6 +48,14 @@ The line `* ATTR=true` gives it a value, which ATTR=true means. May be
 repeated",
     ),
     (
+        "attributes-from",
+        WHICH_FILES,
+        "Read attributes in FILE, too, for --without, --archive and the column
+text. FILE has the syntax of a .gitattributes and its patterns are
+relative to DIR; every .gitattributes overrides it, as git reads
+core.attributesFile. It may define macros",
+    ),
+    (
         "only",
         WHICH_FILES,
         "Count only what is at or under PATH, under the rules of all of DIR.

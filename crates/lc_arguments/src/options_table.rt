@@ -90,6 +90,18 @@ const OPTIONS: &[OptionRow] = &[
         ..FLAG
     },
     OptionRow {
+        name: "attributes-from",
+        value: "FILE",
+        kind: Kind::Text,
+        of: FILTERS,
+        heading: WHICH_FILES,
+        help: "Read attributes in FILE, too; .gitattributes override it",
+        brief: "Read attributes in FILE, too",
+        example: "lc count .",
+        completes: Completes::Files,
+        ..FLAG
+    },
+    OptionRow {
         name: "only",
         value: "PATH",
         kind: Kind::Texts,

@@ -28,8 +28,8 @@ const COUNTS: &[Case] = &[
         "count .: 4 threads, 65536 directories, no format by no columns sorted by Largest(Lines), first 10, files",
     ),
     (
-        "count --exclude-from rules --without a --without=b=1 --only src/ --only c .",
-        "count .: 4 threads, 65536 directories, no format by no columns, excludes rules, without a, without b=1, only src, only c",
+        "count --exclude-from rules --attributes-from attributes --without a --without=b=1 --only src/ --only c .",
+        "count .: 4 threads, 65536 directories, no format by no columns, excludes rules, attributes attributes, without a, without b=1, only src, only c",
     ),
     (
         "count -j 8 --exclude a --exclude=!b --include *.c --no-ignore .",

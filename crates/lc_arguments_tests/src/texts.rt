@@ -18,6 +18,9 @@ fn push_filters(text: &mut String, filters: &FilterRequest) -> Result<(), AllocE
     if let Some(file) = filters.exclude_from {
         write!(text, ", excludes {file}")?;
     }
+    if let Some(file) = filters.attributes_from {
+        write!(text, ", attributes {file}")?;
+    }
     for name in &filters.without {
         write!(text, ", without {name}")?;
     }

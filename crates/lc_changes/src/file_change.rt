@@ -32,7 +32,7 @@ impl<'a> Model for FileChange<'a> {
 fn are_same_counts(a: &FileLine, b: &FileLine) -> bool
     ensures { result ≡ are_same_counts a.now b.now }
 {
-    a.text == b.text
+    a.text() == b.text()
         && a.count.eol == b.count.eol
         && a.count.lines == b.count.lines
         && a.count.blank == b.count.blank

@@ -103,7 +103,7 @@ fate_skipped : (s : FiltersModel) (inside : JobModel) (item : Item) (reason : Re
     → fate_of s inside item ≡ skipped (entry_of item).kind reason
 fate_skipped s inside (file_item n c rules) reason e =
     ap (λ o. option_map_or (skipped File)
-    (option_or o (include_reason (patterns_for (include_rules s) inside.path) (path_in inside.path n))) (file_fate inside n c)) e
+    (option_or o (include_reason (patterns_for (include_rules s) inside.path) (path_in inside.path n))) (file_fate s inside n c)) e
 fate_skipped s inside (directory_item n) reason e = ap (λ o. option_map_or (skipped Dir) o (walked (child_job inside n))) e
 fate_skipped s inside (other_item n what) reason e =
     ap (λ o. option_map_or (skipped (Other what)) o (skipped (Other what) (other_kind what))) e

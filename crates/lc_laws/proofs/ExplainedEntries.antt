@@ -84,7 +84,7 @@ module _ (Enters : Entering) (s : FiltersModel) (whole : s.only ≡ []) (x : Exp
                 subst (TellsOf r path kind) (sym (is ∙ ap (λ o. said_by (cited s stack) o (rule_for n false)) e))
                 (skipped_told r path kind s stack reason
                 (subst (λ p. IsSkipped r p reason) (sym at)
-                (is_skipped (file_item n c rules) has File reason (ap (λ o. option_map_or (skipped File) o (file_fate inside n c)) e))))
+                (is_skipped (file_item n c rules) has File reason (ap (λ o. option_map_or (skipped File) o (file_fate s inside n c)) e))))
             by None e =
                 subst (TellsOf r path kind) (sym (is ∙ ap (λ o. said_by (cited s stack) o (rule_for n false)) e))
                 (taken_told r path kind s stack (rule_for n false)

@@ -28,7 +28,7 @@ module _ (s : FiltersModel) (text : Option (List ℕ)) where
   -- of an entry of a directory
   item_fault : (k : JobModel) (item : Item) (word : FaultWord) → fate_of part k item ≡ failed word
       → (fate_of whole k item ≡ failed word) × (is_in k.path (name_of item) ≡ true)
-  item_fault k (file_item n c rules) word e = fault_by k n c (reason_of whole k n false) (is_in k.path n) word e
+  item_fault k (file_item n c rules) word e = fault_by whole k n c (reason_of whole k n false) (is_in k.path n) word e
   item_fault k (directory_item n) word e = absurd (none (reason_of whole k n true) e)
     where
       none : (o : Option Reason) → option_map_or (skipped Dir) o (walked (child_job k n)) ≡ failed word → ⊥
@@ -42,35 +42,37 @@ module _ (s : FiltersModel) (text : Option (List ℕ)) where
 
   fault_item : (k : JobModel) (item : Item) (word : FaultWord) → fate_of whole k item ≡ failed word
       → is_in k.path (name_of item) ≡ true → fate_of part k item ≡ failed word
-  fault_item k (file_item n c rules) word e included = ap (fate_by k n c (reason_of whole k n false)) included ∙ e
+  fault_item k (file_item n c rules) word e included = ap (fate_by whole k n c (reason_of whole k n false)) included ∙ e
   fault_item k (directory_item n) word e included = e
   fault_item k (other_item n what) word e included = e
 
   item_skipped : (k : JobModel) (item : Item) (kind : Kind) (reason : Reason) → fate_of part k item ≡ skipped kind reason
       → (fate_of whole k item ≡ skipped kind reason)
       ⊎ ((kind ≡ File) × (reason ≡ not_included) × (is_in k.path (name_of item) ≡ false) × IsRead (fate_of whole k item))
-  item_skipped k (file_item n c rules) kind reason e = by (skip_by k n c (reason_of whole k n false) (is_in k.path n) kind reason e)
+  item_skipped k (file_item n c rules) kind reason e =
+      by (skip_by whole k n c (reason_of whole k n false) (is_in k.path n) kind reason e)
     where
-      by : (fate_by k n c (reason_of whole k n false) true ≡ skipped kind reason)
+      by : (fate_by whole k n c (reason_of whole k n false) true ≡ skipped kind reason)
           ⊎ ((kind ≡ File) × (reason ≡ not_included) × (is_in k.path n ≡ false)
-          × (fate_by k n c (reason_of whole k n false) true ≡ file_fate k n c))
+          × (fate_by whole k n c (reason_of whole k n false) true ≡ file_fate whole k n c))
           → (fate_of whole k (file_item n c rules) ≡ skipped kind reason)
           ⊎ ((kind ≡ File) × (reason ≡ not_included) × (is_in k.path n ≡ false) × IsRead (fate_of whole k (file_item n c rules)))
       by (inl same) = inl same
-      by (inr (a, b, c_is, read)) = inr (a, b, c_is, subst IsRead (sym read) (read_fate k n c))
+      by (inr (a, b, c_is, read)) = inr (a, b, c_is, subst IsRead (sym read) (read_fate whole k n c))
   item_skipped k (directory_item n) kind reason e = inl e
   item_skipped k (other_item n what) kind reason e = inl e
 
   skipped_item : (k : JobModel) (item : Item) (kind : Kind) (reason : Reason) → fate_of whole k item ≡ skipped kind reason
       → fate_of part k item ≡ skipped kind reason
-  skipped_item k (file_item n c rules) kind reason e = still_skipped k n c (reason_of whole k n false) (is_in k.path n) kind reason e
+  skipped_item k (file_item n c rules) kind reason e =
+      still_skipped whole k n c (reason_of whole k n false) (is_in k.path n) kind reason e
   skipped_item k (directory_item n) kind reason e = e
   skipped_item k (other_item n what) kind reason e = e
 
   unincluded_item : (k : JobModel) (item : Item) (fate : Fate) → fate_of whole k item ≡ fate → IsRead fate
       → is_in k.path (name_of item) ≡ false → fate_of part k item ≡ skipped File not_included
   unincluded_item k (file_item n c rules) fate e read out =
-      ap (fate_by k n c (reason_of whole k n false)) out ∙ now_skipped k n c (reason_of whole k n false) fate e read
+      ap (fate_by whole k n c (reason_of whole k n false)) out ∙ now_skipped whole k n c (reason_of whole k n false) fate e read
   unincluded_item k (directory_item n) fate e read out = absurd (none (reason_of whole k n true) e)
     where
       none : (o : Option Reason) → option_map_or (skipped Dir) o (walked (child_job k n)) ≡ fate → ⊥

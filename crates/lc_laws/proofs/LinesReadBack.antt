@@ -103,6 +103,7 @@ module _ (form : Form) (by : Bool) (f : FileLineModel) where
       λ i. record {
         path = path i;
         text = state i;
+        asked = (is.asked ∙ sym f_fits.asked) i;
         count = record { lines = lines i; blank = blank i; bytes = bytes i; eol = eol i };
       }
 

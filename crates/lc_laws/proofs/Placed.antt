@@ -61,7 +61,7 @@ module _ (s : FiltersModel) (whole : s.only ≡ []) (top : JobModel) (t : Tree) 
           (found (found_file k.path _) (
             refl,
             entry_has (file_item n (Ok count) rules) has _
-                (ap (λ o. option_map_or (skipped File) o (file_fate inside n (Ok count))) none),
+                (ap (λ o. option_map_or (skipped File) o (file_fate s inside n (Ok count))) none),
           )))
       file_there files n (Err word) rules has none =
           inr (found_at_fault asked xs r report (path_in k.path n) word
@@ -70,5 +70,5 @@ module _ (s : FiltersModel) (whole : s.only ≡ []) (top : JobModel) (t : Tree) 
             n,
             refl,
             entry_has (file_item n (Err word) rules) has _
-                (ap (λ o. option_map_or (skipped File) o (file_fate inside n (Err word))) none),
+                (ap (λ o. option_map_or (skipped File) o (file_fate s inside n (Err word))) none),
           )))))

@@ -23,9 +23,10 @@ pub record FitsCount (c : Count) : Type 0 where
   pub blank : c.blank < 2 ^ 64
   pub bytes : c.bytes < 2 ^ 64
 
--- the path of a file consists of bytes, and its counts fit their types
+-- the path of a file consists of bytes, its counts fit their types, and no attribute was asked for
 pub record FitsFile (f : FileLineModel) : Type 0 where
   pub path : AreBytes f.path
+  pub asked : f.asked ≡ []
   pub count : FitsCount f.count
 
 -- the path of a skipped entry and its attribute consist of bytes, and the number of its rule's line fits its type
@@ -34,7 +35,8 @@ pub record FitsSkipped (l : SkippedLineModel) : Type 0 where
   pub line : IfSome (rule_of l.reason) (λ (rule : RuleSource × ℕ). rule.1 < 2 ^ 32)
   pub attribute : IfSome (attribute_of l.reason) AreBytes
 
--- each number of a report fits its type, and paths and words consist of bytes: it is so in each report that a program has
+-- each number of a report fits its type, paths and words consist of bytes, and files have no states of attributes that were asked for: it
+-- is so in each report that a program has
 pub record FitsTypes (r : Report) : Type 0 where
   pub totals : IsInRange r.totals
   pub directories : r.directories < 2 ^ 64

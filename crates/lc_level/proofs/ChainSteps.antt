@@ -1,7 +1,7 @@
 -- What both chains are by a directory's rule files.
 use Rattle.std.proofs.Common.{◌≡◌, ℕ, refl, ap, ◌∙◌, Option, Some, None, subst, [], List}
 use Rattle.std.specs.{Result.IfOk, declared.sync.Arc.Arc, Prelude.Result}
-use Rattle.lc_rules.specs.{AttrChains.{no_files, with_tree_file, with_info_file}, AttrLines.AttrFileModel, AttrStates.AttrChainModel}
+use Rattle.lc_rules.specs.{AttrChains.{with_tree_file, with_info_file}, AttrLines.AttrFileModel, AttrStates.AttrChainModel}
 use Rattle.lc_rules.specs.{IgnoreChains.{ChainModel, with_info, with_own}, IgnoreRules.RuleModel}
 use Rattle.lc_level.specs.{Job.JobModel, RuleFiles.{with_file_at, first_of}, RuleReads.shared, Filters.FiltersModel, TopJob.top_job}
 
@@ -27,7 +27,14 @@ module _ {A B : Type 0} (depth : ℕ) where
 
   module _ (chain with new : AttrChainModel) (own : Option (Arc AttrFileModel A)) (info : Option (Arc AttrFileModel B))
       (is_with : with ≡ with_info_file chain info) (is_new : new ≡ with_tree_file with depth own) where
-    -- the same of the attribute files
+    -- the same of the attribute files; the lowest stays
+    pub attributes_lowest : new.lowest ≡ chain.lowest
+    attributes_lowest = ap (λ (k : AttrChainModel). k.lowest) is_new ∙ ap (λ (k : AttrChainModel). k.lowest) is_with ∙ at info
+      where
+        at : (i : Option (Arc AttrFileModel B)) → (with_info_file chain i).lowest ≡ chain.lowest
+        at None = refl
+        at (Some file) = refl
+
     pub attributes_tree : new.tree ≡ with_file_at chain.tree depth (shared own)
     attributes_tree =
         ap (λ (k : AttrChainModel). k.tree) is_new ∙ ap (λ (k : AttrChainModel). (with_tree_file k depth own).tree) is_with ∙ at own info
@@ -51,7 +58,7 @@ parts_of path ignore attributes = record { path = path; ignore = ignore; attribu
 
 -- where a walk begins, by its parts
 pub top_by : {E : Type 0} (f : FiltersModel) (path : List ℕ) (ignore : ChainModel) (attributes : AttrChainModel)
-    (r : Result JobModel E) → path ≡ [] → ignore ≡ (top_job f).ignore → attributes ≡ no_files
+    (r : Result JobModel E) → path ≡ [] → ignore ≡ (top_job f).ignore → attributes ≡ (top_job f).attributes
     → IfOk r (λ j. j ≡ parts_of path ignore attributes) → IfOk r (λ j. j ≡ top_job f)
 top_by f path ignore attributes r is_path is_ignore is_attributes made =
     subst (λ (k : JobModel). IfOk r (λ j. j ≡ k)) parts made

@@ -206,19 +206,19 @@ module _ (s : FiltersModel) (k : JobModel) where
   -- what the fates of the files that are left in hold, one file more
   fates_one : {A : Type 0} (f : List ℕ × Fate → List A) (gives : List ℕ → Contents) (n : List ℕ) (c : Result Count FaultWord)
       (names : List (List ℕ)) (t : Bool) (rs : Results) → AreCounted gives k (cond t (n ∷ []) [] ++ names) rs
-      → flat_map f (file_fates k (cond t (n ∷ []) [] ++ names) rs)
-      ≡ cond t (f (n, file_fate k n (result_next t c rs))) [] ++ flat_map f (file_fates k names (results_after t rs))
+      → flat_map f (file_fates s k (cond t (n ∷ []) [] ++ names) rs)
+      ≡ cond t (f (n, file_fate s k n (result_next t c rs))) [] ++ flat_map f (file_fates s k names (results_after t rs))
   fates_one f gives n c names false rs a = refl
   fates_one f gives n c names true [] a = absurd a
   fates_one f gives n c names true (r ∷ rs) a = refl
 
   -- the counted files of the items are those of the names that were kept
   pub files_of_items : (gives : List ℕ → Contents) (items : List Item) (rs : Results) → AreCounted gives k (names_in items) rs →
-      flat_map (files_by s k) (counted_all items rs) ≡ counted_in (file_fates k (names_in items) rs)
+      flat_map (files_by s k) (counted_all items rs) ≡ counted_in (file_fates s k (names_in items) rs)
   files_of_items gives [] rs a = refl
   files_of_items gives (file_item n c rules ∷ items) rs a =
       let t = is_counted s k n in
-      ap (λ l. cond t (counted_by k n (result_next t c rs)) [] ++ l)
+      ap (λ l. cond t (counted_by s k n (result_next t c rs)) [] ++ l)
       (files_of_items gives items (results_after t rs) (counted_one s k all_take_part gives n c (names_in items) t rs a))
       ∙ sym (fates_one counted_of gives n c (names_in items) t rs a)
   files_of_items gives (directory_item n ∷ items) rs a = files_of_items gives items rs a
@@ -226,11 +226,11 @@ module _ (s : FiltersModel) (k : JobModel) where
 
   -- and so are the faults
   pub faults_of_items : (gives : List ℕ → Contents) (items : List Item) (rs : Results) → AreCounted gives k (names_in items) rs →
-      flat_map (faults_by s k) (counted_all items rs) ≡ failed_in (file_fates k (names_in items) rs)
+      flat_map (faults_by s k) (counted_all items rs) ≡ failed_in (file_fates s k (names_in items) rs)
   faults_of_items gives [] rs a = refl
   faults_of_items gives (file_item n c rules ∷ items) rs a =
       let t = is_counted s k n in
-      ap (λ l. cond t (fault_by k n (result_next t c rs)) [] ++ l)
+      ap (λ l. cond t (fault_by s k n (result_next t c rs)) [] ++ l)
       (faults_of_items gives items (results_after t rs) (counted_one s k all_take_part gives n c (names_in items) t rs a))
       ∙ sym (fates_one failed_of gives n c (names_in items) t rs a)
   faults_of_items gives (directory_item n ∷ items) rs a = faults_of_items gives items rs a

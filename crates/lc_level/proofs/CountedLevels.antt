@@ -59,7 +59,7 @@ module _ (lists : List ℕ → Listings) (gives : List ℕ → Contents) (left_o
     numbers = number_of_fates s o.job part ∙ sym c.entries;
   }
 
-  module _ (counts : CountedFiles) (f : IsCounted gives o.job (bytes_of o.files.items) o.absent.items counts) where
+  module _ (counts : CountedFiles) (f : IsCounted gives s o.job (bytes_of o.files.items) o.absent.items counts) where
     counted : AreCounted gives o.job (flat_map (kept_file s o.job) (entries_of part)) f.results
     counted = subst (λ (ns : List (List ℕ)). AreCounted gives o.job ns f.results) c.files f.may
 
@@ -133,13 +133,13 @@ module _ (lists : List ℕ → Listings) (gives : List ℕ → Contents) (left_o
           ∙ ap (λ k. listed_level (fates_of s k counted_part) (absent_from s.only j.path items)) (sym c.inside.extends);
       counts = ap (λ l. counted_in (fates_of s o.job l)) part_is ∙ counted_items_are s o.job (counted_all s o.job part f.results)
           ∙ files_of_items s o.job gives part f.results counted
-          ∙ ap (λ ns. counted_in (file_fates o.job ns f.results)) (sym c.files) ∙ sym f.files;
+          ∙ ap (λ ns. counted_in (file_fates s o.job ns f.results)) (sym c.files) ∙ sym f.files;
       fails = ap (λ l. absent_faults l ++ failed_in (fates_of s o.job counted_part)) same_absent
           ∙ ap (λ l. absent_faults absent ++ l) (ap (λ l. failed_in (fates_of s o.job l)) part_is
           ∙ failed_items_are s o.job (counted_all s o.job part f.results)
           ∙ faults_of_items s o.job gives part f.results counted
-          ∙ ap (λ ns. failed_in (file_fates o.job ns f.results)) (sym c.files))
-          ∙ ap (λ l. l ++ failed_in (file_fates o.job (bytes_of o.files.items) f.results)) (sym c.absent) ∙ sym f.faults;
+          ∙ ap (λ ns. failed_in (file_fates s o.job ns f.results)) (sym c.files))
+          ∙ ap (λ l. l ++ failed_in (file_fates s o.job (bytes_of o.files.items) f.results)) (sym c.absent) ∙ sym f.faults;
       walks = ap (λ l. walked_in (fates_of s o.job l)) part_is ∙ walked_items_are s o.job (counted_all s o.job part f.results)
           ∙ same_children s o.job part f.results ∙ children_of_items s o.job part ∙ sym c.children;
       leaves = ap (asked left_out) (ap (λ l. skipped_in (fates_of s o.job l)) part_is

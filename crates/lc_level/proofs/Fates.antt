@@ -10,20 +10,20 @@ use Rattle.lc_level.specs.{Filters.FiltersModel, declared.fault_word.FaultWord.F
 use Rattle.lc_tree.specs.declared.entry.Kind.{Kind, TheVariants.{File, Dir, Other}}
 
 -- what a file that is not left out gives
-abbrev pub counted_by : JobModel → List ℕ → Result Count FaultWord → List FileLineModel
-counted_by j name count = counted_of (name, file_fate j name count)
+abbrev pub counted_by : FiltersModel → JobModel → List ℕ → Result Count FaultWord → List FileLineModel
+counted_by s j name count = counted_of (name, file_fate s j name count)
 
-abbrev pub fault_by : JobModel → List ℕ → Result Count FaultWord → List FaultLineModel
-fault_by j name count = failed_of (name, file_fate j name count)
+abbrev pub fault_by : FiltersModel → JobModel → List ℕ → Result Count FaultWord → List FaultLineModel
+fault_by s j name count = failed_of (name, file_fate s j name count)
 
 -- what an item gives
 abbrev pub files_by : FiltersModel → JobModel → Item → List FileLineModel
-files_by s j (file_item name count rules) = cond (is_counted s j name) (counted_by j name count) []
+files_by s j (file_item name count rules) = cond (is_counted s j name) (counted_by s j name count) []
 files_by s j (directory_item name) = []
 files_by s j (other_item name what) = []
 
 abbrev pub faults_by : FiltersModel → JobModel → Item → List FaultLineModel
-faults_by s j (file_item name count rules) = cond (is_counted s j name) (fault_by j name count) []
+faults_by s j (file_item name count rules) = cond (is_counted s j name) (fault_by s j name count) []
 faults_by s j (directory_item name) = []
 faults_by s j (other_item name what) = []
 
@@ -51,28 +51,28 @@ skipped_by_item s j item = skipped_entry true s j (entry_of item)
 
 module _ (s : FiltersModel) (j : JobModel) where
   counted_one : (item : Item) → counted_of (name_of item, fate_of s j item) ≡ files_by s j item
-  counted_one (file_item n r rules) = none_or counted_of n File (file_fate j n r) (λ reason. refl) (file_reason s j n)
+  counted_one (file_item n r rules) = none_or counted_of n File (file_fate s j n r) (λ reason. refl) (file_reason s j n)
   counted_one (directory_item n) = nothing counted_of n Dir (walked (child_job j n)) (λ reason. refl) refl (reason_of s j n true)
   counted_one (other_item n what) =
       nothing counted_of n (Other what) (skipped (Other what) (other_kind what)) (λ reason. refl) refl (reason_of s j n false)
 
   failed_one : (item : Item) → failed_of (name_of item, fate_of s j item) ≡ faults_by s j item
-  failed_one (file_item n r rules) = none_or failed_of n File (file_fate j n r) (λ reason. refl) (file_reason s j n)
+  failed_one (file_item n r rules) = none_or failed_of n File (file_fate s j n r) (λ reason. refl) (file_reason s j n)
   failed_one (directory_item n) = nothing failed_of n Dir (walked (child_job j n)) (λ reason. refl) refl (reason_of s j n true)
   failed_one (other_item n what) =
       nothing failed_of n (Other what) (skipped (Other what) (other_kind what)) (λ reason. refl) refl (reason_of s j n false)
 
   -- counting a file leaves it in, and makes it no directory
-  none_left : (n : List ℕ) (r : Result Count FaultWord) → skipped_of (n, file_fate j n r) ≡ []
+  none_left : (n : List ℕ) (r : Result Count FaultWord) → skipped_of (n, file_fate s j n r) ≡ []
   none_left n (Ok count) = refl
   none_left n (Err word) = refl
 
-  no_child : (n : List ℕ) (r : Result Count FaultWord) → walked_of (n, file_fate j n r) ≡ []
+  no_child : (n : List ℕ) (r : Result Count FaultWord) → walked_of (n, file_fate s j n r) ≡ []
   no_child n (Ok count) = refl
   no_child n (Err word) = refl
 
   walked_one : (item : Item) → walked_of (name_of item, fate_of s j item) ≡ children_by s j item
-  walked_one (file_item n r rules) = nothing walked_of n File (file_fate j n r) (λ reason. refl) (no_child n r) (file_reason s j n)
+  walked_one (file_item n r rules) = nothing walked_of n File (file_fate s j n r) (λ reason. refl) (no_child n r) (file_reason s j n)
   walked_one (directory_item n) = none_or walked_of n Dir (walked (child_job j n)) (λ reason. refl) (reason_of s j n true)
   walked_one (other_item n what) =
       nothing walked_of n (Other what) (skipped (Other what) (other_kind what)) (λ reason. refl) refl (reason_of s j n false)
@@ -81,7 +81,7 @@ module _ (s : FiltersModel) (j : JobModel) where
   skipped_one : (item : Item) → skipped_of (name_of item, fate_of s j item) ≡ skipped_by_item s j item
   skipped_one (file_item n r rules) = at (file_reason s j n)
     where
-      at : (o : Option Reason) → skipped_of (n, option_map_or (skipped File) o (file_fate j n r)) ≡ skipped_by n File o
+      at : (o : Option Reason) → skipped_of (n, option_map_or (skipped File) o (file_fate s j n r)) ≡ skipped_by n File o
       at None = none_left n r
       at (Some reason) = refl
   skipped_one (directory_item n) = at (reason_of s j n true)

@@ -3,55 +3,73 @@ use Rattle.std.specs.Prelude.{ℕ, Bool, true, false, ◌&&◌, ◌||◌, nat_eq
 use Rattle.std.specs.{Prelude.{Some, None, option_map}, List.{list_any, before_first, after_first, range_with_len}, Option.is_none}
 use Rattle.std.specs.Option.{is_some}
 use Rattle.lc_glob.specs.{Bytes.slash, Pieces.is_byte}
-use Rattle.lc_rules.specs.{Attributes.{StateModel, set, unset, value, unspecified}, Bytes.equals_sign, IgnoreRules.{RuleModel, rules_of}}
-use Rattle.lc_rules.specs.Verdicts.{at_depth, last_match}
+use Rattle.lc_rules.specs.{Attributes.{StateModel, set, unset, value, unspecified}, AttrLines.AttrFileModel, Bytes.equals_sign}
+use Rattle.lc_rules.specs.{IgnoreRules.{RuleModel, rules_of}, Verdicts.{at_depth, last_match}}
 
--- the text of an ignore file that all others override; the patterns that override all others, one a line; the patterns for files, one a
--- line: if there are some, only files that they include stay; whether no ignore file of the tree is read; words `ATTR` or `ATTR=VALUE`:
--- what has the state that one of them requires is skipped; and paths: if there are some, only what is at or below one of them stays
+-- the text of an ignore file that all others override; an attribute file that all others override; the patterns that override all others,
+-- one a line; the patterns for files, one a line: if there are some, only files that they include stay; whether no ignore file of the tree
+-- is read; words `ATTR` or `ATTR=VALUE`: what has the state that one of them requires is skipped; paths: if there are some, only what is at
+-- or below one of them stays; and the attributes whose states each counted file has
 pub record FiltersModel : Type 0 where
   pub exclude_from : Option (List ℕ)
+  pub attributes_from : Option AttrFileModel
   pub exclude : Option (List ℕ)
   pub include : Option (List ℕ)
   pub no_ignore : Bool
   pub without : List (List ℕ)
   pub only : List (List ℕ)
+  pub asked : List (List ℕ)
 
--- the filters that skip only what a tree's own rules ignore
+-- the filters that skip only what a tree's own rules ignore, and ask for no attribute
 abbrev pub no_filters : FiltersModel
-no_filters = record { exclude_from = None; exclude = None; include = None; no_ignore = false; without = []; only = [] }
+no_filters = record {
+  exclude_from = None;
+  attributes_from = None;
+  exclude = None;
+  include = None;
+  no_ignore = false;
+  without = [];
+  only = [];
+  asked = [];
+}
 
 -- these filters with these words of attributes
 abbrev pub leaving_out : FiltersModel → List (List ℕ) → FiltersModel
 leaving_out f without = record {
   exclude_from = f.exclude_from;
+  attributes_from = f.attributes_from;
   exclude = f.exclude;
   include = f.include;
   no_ignore = f.no_ignore;
   without = without;
   only = f.only;
+  asked = f.asked;
 }
 
 -- these filters with these paths of `--only`
 abbrev pub narrowed : FiltersModel → List (List ℕ) → FiltersModel
 narrowed f only = record {
   exclude_from = f.exclude_from;
+  attributes_from = f.attributes_from;
   exclude = f.exclude;
   include = f.include;
   no_ignore = f.no_ignore;
   without = f.without;
   only = only;
+  asked = f.asked;
 }
 
 -- these filters with these patterns for files
 abbrev pub including : FiltersModel → Option (List ℕ) → FiltersModel
 including f patterns = record {
   exclude_from = f.exclude_from;
+  attributes_from = f.attributes_from;
   exclude = f.exclude;
   include = patterns;
   no_ignore = f.no_ignore;
   without = f.without;
   only = f.only;
+  asked = f.asked;
 }
 
 -- the rules of the patterns for files

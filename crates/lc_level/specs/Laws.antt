@@ -22,7 +22,7 @@ module _ (lists : List ℕ → Listings) (gives : List ℕ → Contents) where
   abbrev pub CountedLaw : Type 0
   CountedLaw =
       (left_out : Bool) (f : FiltersModel) (j : JobModel) (o : Opened) (found : CountedFiles) →
-      IsOpened lists gives left_out f j o → IsCounted gives o.job (bytes_of o.files.items) o.absent.items found →
+      IsOpened lists gives left_out f j o → IsCounted gives f o.job (bytes_of o.files.items) o.absent.items found →
       (a : Answers) × MayAnswer lists gives j.path a × IsWellFormed a
       × IsLevelOf (level f j a) left_out (parts_with o found.files.items found.faults.items) × (has_too_deep f j a ≡ false)
 

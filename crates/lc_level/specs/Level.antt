@@ -2,7 +2,7 @@
 use Rattle.std.specs.Prelude.{ℕ, ◌≡◌, Bool, true, false, cond, List, [], ◌∷◌, ◌++◌, length, flat_map, map, bytes_eq, codes, if◌then◌else◌}
 use Rattle.std.specs.{Prelude.{Option, None, Some, option_map, Result, Ok, Err}, List.find, Option.{is_none, option_map_or, option_or}}
 use Rattle.lc_rules.specs.{IgnoreChains.rules_in, IgnoreRules.RuleModel, Verdicts.last_match, declared.rule_source.RuleSource.RuleSource}
-use Rattle.lc_rules.specs.{declared.states.TextState.TextState, AttrStates.{state_of, as_text}}
+use Rattle.lc_rules.specs.{declared.states.TextState.TextState, Attributes.StateModel, AttrStates.{state_of, as_text}}
 use Rattle.lc_census.specs.declared.line_count.Count.{Count}
 use Rattle.lc_tree.specs.declared.entry.{Kind.{Kind, TheVariants.{File, Dir, Other}}, OtherKind.OtherKind}
 use Rattle.lc_level.specs.{declared.fault_word.FaultWord.{FaultWord, TheVariants.Absent}, Answers.{Item, file_item, directory_item}}
@@ -11,10 +11,12 @@ use Rattle.lc_level.specs.{Narrowing.absent_from, RuleFiles.{RuleBytes, rule_byt
 use Rattle.lc_level.specs.Filters.{value_of, is_state, patterns_for, include_rules, is_included}
 use Rattle.lc_glob.specs.Path.{path_in}
 
--- a counted file, by its path from a directory or from the top
+-- a counted file, by its path from a directory or from the top, with the state of the attribute `text`, and with those of the attributes
+-- that were asked for
 pub record FileLineModel : Type 0 where
   pub path : List ℕ
   pub text : TextState
+  pub asked : List StateModel
   pub count : Count
 
 -- why an entry is skipped, the first of these that holds: it is named `.git`; the last rule that matches it ignores it, and is in a file of
@@ -35,7 +37,7 @@ pub record SkippedLineModel : Type 0 where
 
 -- a line of a file, with its path joined to the path of a directory above
 abbrev pub file_below : List ℕ → FileLineModel → FileLineModel
-file_below directory f = record { path = path_in directory f.path; text = f.text; count = f.count }
+file_below directory f = record { path = path_in directory f.path; text = f.text; asked = f.asked; count = f.count }
 
 abbrev pub skipped_below : List ℕ → SkippedLineModel → SkippedLineModel
 skipped_below directory l = record { path = path_in directory l.path; kind = l.kind; reason = l.reason }
@@ -107,6 +109,10 @@ is_counted f j name = is_none (file_reason f j name)
 abbrev pub text_of : JobModel → List ℕ → TextState
 text_of j path = as_text (state_of j.attributes path false (codes "text"))
 
+-- the states of the attributes that the filters ask for, in their order
+abbrev pub asked_of : FiltersModel → JobModel → List ℕ → List StateModel
+asked_of f j path = map (state_of j.attributes path false) f.asked
+
 -- the job of the directory at a path, with the chains of this job
 abbrev pub job_at : JobModel → List ℕ → JobModel
 job_at j path = record { path = path; ignore = j.ignore; attributes = j.attributes }
@@ -115,12 +121,13 @@ abbrev pub child_job : JobModel → List ℕ → JobModel
 child_job j name = job_at j (path_in j.path name)
 
 -- the fate of a file that is not skipped, by the result of counting it
-abbrev pub file_fate : JobModel → List ℕ → Result Count FaultWord → Fate
-file_fate j name (Ok count) = counted (record { path = name; text = text_of j (path_in j.path name); count = count })
-file_fate j name (Err word) = failed word
+abbrev pub file_fate : FiltersModel → JobModel → List ℕ → Result Count FaultWord → Fate
+file_fate f j name (Ok count) =
+    counted (record { path = name; text = text_of j (path_in j.path name); asked = asked_of f j (path_in j.path name); count = count })
+file_fate f j name (Err word) = failed word
 
 abbrev pub fate_of : FiltersModel → JobModel → Item → Fate
-fate_of f j (file_item name count rules) = option_map_or (skipped File) (file_reason f j name) (file_fate j name count)
+fate_of f j (file_item name count rules) = option_map_or (skipped File) (file_reason f j name) (file_fate f j name count)
 fate_of f j (directory_item name) = option_map_or (skipped Dir) (reason_of f j name true) (walked (child_job j name))
 fate_of f j (other_item name what) =
     option_map_or (skipped (Other what)) (reason_of f j name false) (skipped (Other what) (other_kind what))

@@ -8,6 +8,7 @@ pub mod Examples
 pub mod FaultLines
 pub mod FaultWords
 pub mod FileAnswers
+pub mod FileAttributes
 pub mod FileReads
 pub mod GitInfo
 pub mod Job

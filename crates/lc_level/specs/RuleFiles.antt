@@ -114,6 +114,7 @@ extended j files = record {
     no_ignore = j.ignore.no_ignore;
   };
   attributes = record {
+    lowest = j.attributes.lowest;
     tree = with_file_at j.attributes.tree (depth_of j.path) (option_map (attribute_file_of (is_top j.path)) files.own.attributes);
     info = first_of (option_map (attribute_file_of true) files.info.attributes) j.attributes.info;
   };

@@ -14,5 +14,5 @@ top_job f = record {
     command_line = option_map rules_of f.exclude;
     no_ignore = f.no_ignore;
   };
-  attributes = record { tree = []; info = None };
+  attributes = record { lowest = f.attributes_from; tree = []; info = None };
 }

@@ -1,4 +1,4 @@
-//! The filters of a walk: what decides, besides the tree's own rule files, which entries are skipped.
+//! The filters of a walk: what decides, besides the tree's own rule files, which entries are skipped and which attributes files have.
 ghost use Rattle.std.specs.Prelude.{◌≡◌, IfOk, option_map, map};
 ghost use Rattle.lc_level.specs.Filters.{attribute_of, include_rules, is_state, no_filters, patterns_for, value_of};
 ghost use Rattle.lc_level.specs.Level.{attribute_reason, by_attribute, is_met};
@@ -14,13 +14,13 @@ use crate::narrowing::included::patterns_for;
 use crate::narrowing::only_paths::OnlyPaths;
 use crate::rule_files::rule_text::RuleText;
 use lc_glob::cut_at_first;
-use lc_rules::{Chain, IgnoreFile, State};
+use lc_rules::{AttrChain, AttrFile, Chain, IgnoreFile, State};
 use std::alloc::{AllocError, Global};
 use std::marker::Model;
 use std::sync::Arc;
 
-/// What decides, besides a tree's own rule files, which entries are skipped. One value is made for a tree, and each `LevelReader` of the
-/// tree borrows this value.
+/// What decides, besides a tree's own rule files, which entries are skipped, and which attributes the counted files have. One value is made
+/// for a tree, and each `LevelReader` of the tree borrows this value.
 ///
 /// ```
 /// let as_it_is = Filters::none(alloc);
@@ -28,11 +28,16 @@ use std::sync::Arc;
 /// let sources = Filters { only, ..Filters::none(alloc) }; // of the tree `src` and what is below it
 /// let patterns = read_rule_text(alloc, &mut b"*.rs\n".as_slice())?;
 /// let rust = Filters { include: Some(patterns), ..Filters::none(alloc) }; // of the files those that `*.rs` matches
+/// let teams = Arc::new(alloc, AttrFile::read(alloc, b"*.rs team=core\n", true)?)?;
+/// let by_team = Filters { attributes_from: Some(teams), asked: vec![in alloc; b"team".to_vec(alloc)?]?, ..Filters::none(alloc) };
 /// ```
 #[derive(Drop)]
 pub struct Filters<'p> {
     /// The ignore file for the whole tree, which every `.gitignore` overrides, like Git's `core.excludesFile` (gitignore(5)).
     pub exclude_from: Option<RuleText>,
+    /// The attribute file for the whole tree, which every `.gitattributes` overrides, like Git's `core.attributesFile` (gitattributes(5)).
+    /// It may define macros.
+    pub attributes_from: Option<Arc<AttrFile, Global>>,
     /// The patterns of the command line, one on each line. They override the rules of all files (gitignore(5)).
     pub exclude: Option<RuleText>,
     /// The patterns of files to count, one on each line. No pattern is negated. If this field is `Some`, a file is skipped unless a pattern
@@ -48,21 +53,26 @@ pub struct Filters<'p> {
     /// The paths of `--only`. They select the entries at these paths, everything under these entries, and the directories above them. An
     /// empty list selects everything.
     pub only: OnlyPaths<'p>,
+    /// The names of attributes. Each counted file has the states of these attributes, in this order.
+    pub asked: Vec<Vec<u8>>,
 }
 
 impl<'p> Model for Filters<'p> {
     ghost use Rattle.std.specs.Prelude.{map};
     ghost use Rattle.lc_level.specs.Filters.{FiltersModel};
+    ghost use Rattle.lc_level.specs.RuleReads.{shared};
 
     ghost Value = { FiltersModel };
 
     ghost view = { λ f. record {
       exclude_from = f.exclude_from;
+      attributes_from = shared f.attributes_from;
       exclude = f.exclude;
       include = f.include;
       no_ignore = f.no_ignore;
       without = map (λ word. word.items) f.without.items;
       only = f.only;
+      asked = map (λ name. name.items) f.asked.items;
     } };
 }
 
@@ -116,17 +126,19 @@ fn shared_rules(text: &Option<RuleText>) -> Result<Option<Arc<IgnoreFile, Global
 }
 
 impl<'p> Filters<'p> {
-    /// Makes the filters that skip only what a tree's own rules ignore.
+    /// Makes the filters that skip only what a tree's own rules ignore, and that ask for no attribute.
     pub fn none(alloc: Global) -> Filters<'p>
         ensures { result ≡ no_filters }
     {
         Filters {
             exclude_from: None,
+            attributes_from: None,
             exclude: None,
             include: None,
             no_ignore: false,
             without: Vec::new(alloc),
             only: OnlyPaths::none(alloc),
+            asked: Vec::new(alloc),
         }
     }
 
@@ -137,6 +149,16 @@ impl<'p> Filters<'p> {
         let given = Chain::top().with_exclude(shared_rules(&self.exclude_from)?);
         let asked = given.with_command_line(shared_rules(&self.exclude)?);
         Ok(asked.with_no_ignore(self.no_ignore))
+    }
+
+    /// Returns the chain of attribute files of a tree's top. The chain has only the file that these filters set for the whole tree.
+    pub(crate) fn top_attributes(&self) -> Result<AttrChain, AllocError>
+        ensures { IfOk result (λ chain. chain ≡ (top_job self.now).attributes) }
+    {
+        match &self.attributes_from {
+            None => Ok(AttrChain::top_with(None)),
+            Some(file) => Ok(AttrChain::top_with(Some(Arc::try_clone(file)?))),
+        }
     }
 
     /// Returns what the paths of `--only` select of a directory: all of it, or some paths below it.

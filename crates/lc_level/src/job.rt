@@ -62,7 +62,7 @@ impl Job {
     {
         let ignore = filters.top_chain()?;
         let path = Vec::new(alloc);
-        let attributes = Arc::new(alloc, AttrChain::top())?;
+        let attributes = Arc::new(alloc, filters.top_attributes()?)?;
         Job::new(alloc, path, Arc::new(alloc, ignore)?, attributes)
     }
 

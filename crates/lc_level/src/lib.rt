@@ -14,6 +14,7 @@
 //! - `named_attributes`: which attributes a tree's attribute files name
 //! - `counting`: counting the files of a directory
 //! - `threads`: counting the files of a directory with several threads
+//! - `file_attributes`: the states of attributes that a counted file has
 //! - `files`: opening one file, to count it or to read it as rules
 //! - `lines`: the files, errors and skipped entries of a report
 //! - `paths`: joining a directory's path and an entry's name, and making a path relative to a directory
@@ -33,6 +34,7 @@ mod entering;
 mod entry_looks;
 mod fault_site;
 mod fault_word;
+mod file_attributes;
 mod files;
 mod filters;
 mod job;
@@ -58,6 +60,7 @@ pub use entering::{Entered, RuleTexts};
 pub use entry_looks::entry_named;
 pub use fault_site::FaultSite;
 pub use fault_word::FaultWord;
+pub use file_attributes::{AttributeState, FileAttributes};
 pub use filters::Filters;
 pub use job::Job;
 pub use laws::{

@@ -4,6 +4,7 @@ ghost use Rattle.lc_level.specs.FaultLines.{fault_below};
 ghost use Rattle.lc_level.specs.Level.{file_below, skipped_below};
 
 use crate::fault_word::FaultWord;
+use crate::file_attributes::FileAttributes;
 use crate::paths::path_in;
 use crate::reason::Reason;
 use lc_census::Count;
@@ -11,6 +12,7 @@ use lc_rules::TextState;
 use lc_tree::Kind;
 use std::alloc::{AllocError, Global};
 use std::marker::Model;
+use std::sync::Arc;
 
 /// A line of a report: a counted file, an error or a skipped entry, with its path. The path is relative to a directory or to the top of a
 /// tree.
@@ -33,19 +35,37 @@ pub trait Line: Sized {
 pub struct FileLine {
     /// The path of the file, relative to a directory or to the top of a tree.
     pub path: Vec<u8>,
-    /// The state of the attribute `text` for the file.
-    pub text: TextState,
+    /// The states of attributes for the file.
+    pub attributes: Arc<FileAttributes, Global>,
     /// The numbers of the file's lines, blank lines and bytes, and its line ends.
     pub count: Count,
 }
 
 impl Model for FileLine {
+    ghost use Rattle.std.specs.Arc.{arc_value};
     ghost use Rattle.lc_level.specs.Level.{FileLineModel};
 
     ghost Value = { FileLineModel };
 
-    ghost view = { λ f. record { path = f.path.items; text = f.text; count = f.count } };
+    ghost view = { λ f. record {
+      path = f.path.items;
+      text = (arc_value f.attributes).text;
+      asked = (arc_value f.attributes).asked;
+      count = f.count;
+    } };
 }
+
+impl FileLine {
+    /// Returns the state of the attribute `text` for the file.
+    pub fn text(&self) -> TextState
+        ensures { result ≡ self.now.text }
+    {
+        self.attributes.text
+    }
+}
+
+// A list of many files takes this much memory for each, its path aside.
+const _: () = prove!(size_of::<FileLine>() == 64);
 
 impl Line for FileLine {
     ghost path_of = { λ f. f.path };
@@ -59,7 +79,7 @@ impl Line for FileLine {
     fn below(&self, alloc: Global, directory: &[u8]) -> Result<FileLine, AllocError> {
         Ok(FileLine {
             path: path_in(alloc, directory, &self.path)?,
-            text: self.text,
+            attributes: Arc::try_clone(&self.attributes)?,
             count: self.count,
         })
     }

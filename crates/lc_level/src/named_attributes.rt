@@ -73,7 +73,7 @@ impl NamedAttributes {
     }
 
     /// Notes the attributes whose names are in `bytes`, the text of an attribute file.
-    pub(crate) fn note(&self, bytes: &[u8]) {
+    pub fn note(&self, bytes: &[u8]) {
         for word in &self.words {
             if !word.is_named.load(Ordering::SeqCst)
                 && memmem::find(bytes, &word.attribute).is_some()

@@ -2,6 +2,7 @@
 ghost use Rattle.std.specs.Prelude.{◌≡◌, vec_len};
 ghost use Rattle.lc_io.specs.Buffers.{buffer_len};
 
+use crate::file_attributes::SharedAttributes;
 use crate::path_buffer::PathBuffer;
 use lc_io::new_buffer;
 use std::alloc::{AllocError, Global};
@@ -15,6 +16,8 @@ pub struct Scratch {
     pub(crate) rules: Vec<u8>,
     // Of an entry.
     pub(crate) path: PathBuffer,
+    // Of the files that were counted last.
+    pub(crate) attributes: SharedAttributes,
     ghost sized: { vec_len buffer ≡ buffer_len },
 }
 
@@ -25,6 +28,7 @@ impl Scratch {
             buffer: new_buffer(alloc)?,
             rules: Vec::new(alloc),
             path: PathBuffer::new(alloc),
+            attributes: SharedAttributes::new(alloc),
         })
     }
 }

@@ -10,6 +10,7 @@ use Rattle.lc_program.specs.declared.cause.Cause.{Cause}
 use Rattle.lc_program.specs.declared.cause.Cause.TheVariants.{Memory, TooManyDirs, TooDeep, Torn, Mismatch, UnreadRules, RulesTooLong}
 use Rattle.lc_program.specs.declared.cause.Cause.TheVariants.{UnreadPaths, PathsTooLong, BadPaths, UnreadInput, InputTooLong, Unwritten}
 use Rattle.lc_program.specs.declared.cause.Cause.TheVariants.{InDirectory, InReport, Nested, NoSharedColumn, SumsTooLarge}
+use Rattle.lc_program.specs.declared.cause.Cause.TheVariants.{AttributesTooLong, UnreadAttributes}
 use Rattle.lc_program.specs.declared.unread_reason.UnreadReason.{UnreadReason}
 use Rattle.lc_reports.specs.declared.join_fault.JoinFault.{JoinFault}
 use Rattle.lc_walk.specs.declared.walk_fault.WalkFault.TheVariants as walk
@@ -22,6 +23,10 @@ use Rattle.lc_reports.specs.declared.join_fault.JoinFault.TheVariants as join
 abbrev pub unread_paths_line : Option UnreadReason → List ℕ
 unread_paths_line why = codes "lc: cannot read paths" ++ reason_given why ++ codes "\n"
 
+-- the same of the attribute file that the command line names
+abbrev pub unread_attributes_line : Option UnreadReason → List ℕ
+unread_attributes_line why = codes "lc: cannot read attributes" ++ reason_given why ++ codes "\n"
+
 abbrev pub cause_line : Cause → List ℕ
 cause_line Memory = codes "lc: out of memory\n"
 cause_line TooManyDirs = codes "lc: too many directories\n"
@@ -30,6 +35,8 @@ cause_line (Torn n) = codes "lc: internal: directory " ++ decimal n ++ codes " t
 cause_line (Mismatch w) = codes "lc: internal: worker " ++ decimal w ++ codes " mismatch\n"
 cause_line UnreadRules = codes "lc: cannot read rules\n"
 cause_line RulesTooLong = codes "lc: rules too long\n"
+cause_line (UnreadAttributes why) = unread_attributes_line why
+cause_line AttributesTooLong = codes "lc: attributes too long\n"
 cause_line (UnreadPaths why) = unread_paths_line why
 cause_line PathsTooLong = codes "lc: paths too long\n"
 cause_line (BadPaths line) = string_bytes line

@@ -19,6 +19,7 @@ choice_line option old new = codes "lc: " ++ option ++ codes " chooses files of 
 abbrev pub first_choice : WalkRequest → Option (List ℕ)
 first_choice w =
     if is_some w.filters.exclude_from then Some (codes "--exclude-from")
+    else if is_some w.filters.attributes_from then Some (codes "--attributes-from")
     else if not (is_empty w.filters.exclude.items) then Some (codes "--exclude")
     else if not (is_empty w.filters.include.items) then Some (codes "--include")
     else if w.filters.no_ignore then Some (codes "--no-ignore")

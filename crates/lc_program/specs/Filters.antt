@@ -1,13 +1,16 @@
 -- The filters of a command line: what decides, besides the tree's own rules, which entries are skipped.
-use Rattle.std.specs.Prelude.{◌≡◌, ◌⊎◌, ◌<◌, ℕ, Bool, cond, List, [], ◌∷◌, codes, map, length, Option, Some, None, Result, Ok, Err}
-use Rattle.std.specs.Borrow.{Bor}
+use Rattle.std.specs.Prelude.{◌≡◌, ◌⊎◌, ◌<◌, ℕ, Bool, true, cond, List, [], ◌∷◌, codes, map, length, Option, Some, None, Result, Ok, Err}
+use Rattle.std.specs.{Prelude.Vec, Borrow.Bor, Global.Global}
 use Rattle.lc_arguments.specs.{Repeated.lines_text, declared.filter_request.FilterRequest.FilterRequest}
 use Rattle.lc_level.specs.{FileReads.MayReadRules, Filters.FiltersModel, declared.rule_files.rule_text.RulesFileFault.RulesFileFault}
-use Rattle.lc_rules.specs.Limits.{max_rule_bytes}
+use Rattle.lc_io.specs.declared.whole.WholeFault.{WholeFault}
+use Rattle.lc_rules.specs.{AttrLines.{AttrFileModel, attribute_file_of}, Limits.max_rule_bytes}
 use Rattle.lc_tree.specs.Trees.{Contents}
-use Rattle.lc_program.specs.{Causes.rules_cause, declared.cause.Cause.Cause}
+use Rattle.lc_program.specs.{Causes.rules_cause, NamedTexts.LoadsText, declared.unread_reason.UnreadReason.UnreadReason}
+use Rattle.lc_program.specs.declared.cause.Cause.{Cause, TheVariants.{AttributesTooLong, Memory, UnreadAttributes}}
 use Rattle.lc_level.specs.declared.fault_word.FaultWord.TheVariants as word
 use Rattle.lc_level.specs.declared.rule_files.rule_text.RulesFileFault.TheVariants as fault
+use Rattle.lc_io.specs.declared.whole.WholeFault.TheVariants as whole
 
 -- what reading a rule file may answer, by what its reads may give. Either its bytes, which reads gave up to the end; or a read failed, as
 -- the first read of a file that can't be opened; or there are too many bytes; or an allocation failed
@@ -43,15 +46,17 @@ LacksPatterns patterns cause =
 abbrev pub words_of : Bool → List (List ℕ) → List (List ℕ)
 words_of archive without = cond archive (codes "export-ignore" ∷ without) without
 
--- the filters that the command line requests, with the text of the rule file that it names, and with these paths alone
-abbrev pub filters_of : FilterRequest → Option (List ℕ) → List (List ℕ) → FiltersModel
-filters_of asked text only = record {
+-- the filters that the command line requests, with the text of the ignore file and with the attribute file that it names, without paths
+abbrev pub filters_of : FilterRequest → Option (List ℕ) → Option AttrFileModel → FiltersModel
+filters_of asked text attributes = record {
   exclude_from = text;
+  attributes_from = attributes;
   exclude = patterns_text (map (λ pattern. pattern.now) asked.exclude.items);
   include = patterns_text (map (λ pattern. pattern.now) asked.include.items);
   no_ignore = asked.no_ignore;
   without = words_of asked.archive (map (λ word. word.now) asked.without.items);
-  only = only;
+  only = [];
+  asked = [];
 }
 
 module _ (holds : List ℕ → Contents) where
@@ -71,12 +76,36 @@ module _ (holds : List ℕ → Contents) where
   AnswersExcluded name (Ok text) = Excludes name text
   AnswersExcluded name (Err cause) = LacksFile name cause
 
+  -- the file is what the bytes of the file of `--attributes-from` are read as, if the command line names one
+  abbrev pub Assigns : Option (Bor (List ℕ)) → Option AttrFileModel → Type 0
+  Assigns None file = file ≡ None
+  Assigns (Some name) None = ⊥
+  Assigns (Some name) (Some file) =
+      (bytes : Vec ℕ Global) × LoadsText max_rule_bytes (holds name.now) (Ok bytes) × (file ≡ attribute_file_of true bytes.items)
+
+module _ (holds : List ℕ → Contents) (may_unread : List ℕ → Option UnreadReason → Type 0) where
+  -- why the file of `--attributes-from` could not be read; the reason is what the system may say
+  abbrev pub IsAttributesCause : List ℕ → WholeFault → Cause → Type 0
+  IsAttributesCause name whole.Read cause = (reason : Option UnreadReason) × may_unread name reason × (cause ≡ UnreadAttributes reason)
+  IsAttributesCause name whole.TooLong cause = cause ≡ AttributesTooLong
+  IsAttributesCause name whole.Memory cause = cause ≡ Memory
+
+  -- the command line names a file with `--attributes-from` that could not be read, for this cause
+  abbrev pub LacksAttributes : Option (Bor (List ℕ)) → Cause → Type 0
+  LacksAttributes None cause = ⊥
+  LacksAttributes (Some name) cause =
+      (fault : WholeFault) × LoadsText max_rule_bytes (holds name.now) (Err fault) × IsAttributesCause name.now fault cause
+
   -- the command line names a file or patterns that gave no rules, for this cause
   abbrev pub LacksRules : FilterRequest → Cause → Type 0
   LacksRules asked cause =
-      LacksFile asked.exclude_from cause ⊎ (LacksPatterns asked.exclude.items cause ⊎ LacksPatterns asked.include.items cause)
+      LacksFile holds asked.exclude_from cause
+      ⊎ (LacksAttributes asked.attributes_from cause
+      ⊎ (LacksPatterns asked.exclude.items cause ⊎ LacksPatterns asked.include.items cause))
 
   -- the filters that the command line requests, without paths, or why there are none
   abbrev pub AnswersFilters : FilterRequest → Result FiltersModel Cause → Type 0
-  AnswersFilters asked (Ok f) = (text : Option (List ℕ)) × Excludes asked.exclude_from text × (f ≡ filters_of asked text [])
+  AnswersFilters asked (Ok f) =
+      (text : Option (List ℕ)) × Excludes holds asked.exclude_from text
+      × ((file : Option AttrFileModel) × Assigns holds asked.attributes_from file × (f ≡ filters_of asked text file))
   AnswersFilters asked (Err cause) = LacksRules asked cause

@@ -1,6 +1,7 @@
 -- How a request is answered, by what was read and written.
-use Rattle.std.specs.{Prelude.{◌≡◌, ◌⊎◌, ℕ, Bool, true, false, List, [], ◌∷◌, map, Option, Result, Ok, Err}, Borrow.Bor}
+use Rattle.std.specs.{Prelude.{◌≡◌, ◌⊎◌, ℕ, Bool, true, false, List, [], ◌∷◌, map, Result, Ok, Err}, Borrow.Bor}
 use Rattle.lc_io.specs.{declared.{source.Failed.Failed, printing.PrintFault.PrintFault}, Reads.Answer}
+use Rattle.lc_level.specs.Filters.{FiltersModel}
 use Rattle.lc_rules.specs.IgnoreRules.{rules_of}
 use Rattle.lc_tree.specs.{Trees.{Listings, Contents}, declared.file_systems.FileSystems.TheVariants.All}
 use Rattle.lc_paths.specs.Explanations.Answers.{AnswersExplain, AnswersLines, MaySay}
@@ -10,9 +11,9 @@ use Rattle.lc_paths.specs.Checks.{Answers.{AnswersCheck, AnswersExplainedCheck, 
 use Rattle.lc_paths.specs.{Checks.{Joined.{rules_part, joined_text}, ExplainedText.explained_text_of}, Styles.styled}
 use Rattle.lc_arguments.specs.declared.request.Request.{Request, TheVariants.{CheckJoined, Check, Count, Diff, Explain, Sum}}
 use Rattle.lc_arguments.specs.declared.explain.ExplainRequest.{ExplainRequest}
-use Rattle.lc_program.specs.{Counts.AnswersCount, Differences.AnswersDiff, Replies.{Reply, checked, explained, told}, Filters.Excludes}
-use Rattle.lc_program.specs.{Filters.{GaveNoRules, LacksRules, LoadsFile, filters_of}, Styles.{end_for, format_for, format_with, style_for}}
-use Rattle.lc_program.specs.{Sums.AnswersSum, Systems.SystemMay, declared.cause.Cause.{Cause, TheVariants.Memory}}
+use Rattle.lc_program.specs.{Counts.AnswersCount, Differences.AnswersDiff, Replies.{Reply, checked, explained, told}}
+use Rattle.lc_program.specs.{Filters.{AnswersFilters, GaveNoRules, LacksRules, LoadsFile}, Styles.{end_for, format_for, format_with}}
+use Rattle.lc_program.specs.{Styles.style_for, Sums.AnswersSum, Systems.SystemMay, declared.cause.Cause.{Cause, TheVariants.Memory}}
 
 -- the explanations of paths in a tree, by what the tree may answer
 module _ (lists : List ℕ → Listings) (gives : List ℕ → Contents) {I O : Type 0} (may_give : I → ℕ → Answer → I → Type 0)
@@ -55,11 +56,11 @@ module _ (may : SystemMay) {I O : Type 0} (may_give : I → ℕ → Answer → I
   -- rules or no memory, and nothing was read or written
   abbrev pub AnswersExplanation : PathStyle → ExplainRequest → I → O → Reply → I → O → Type 0
   AnswersExplanation style c input out reply read wrote =
-      ((text : Option (List ℕ)) × Excludes may.hold c.filters.exclude_from text
-      × ((q : ExplainOptions) × (q.filters.now ≡ filters_of c.filters text []) × (q.style ≡ style)
+      ((f : FiltersModel) × AnswersFilters may.hold may.unread c.filters (Ok f)
+      × ((q : ExplainOptions) × (q.filters.now ≡ f) × (q.style ≡ style)
       × AnswersPaths (may.list c.directory.now All) (may.give c.directory.now All) may_give may_take q c.null c.paths.items input out reply
       read wrote))
-      ⊎ ((cause : Cause) × (LacksRules may.hold c.filters cause ⊎ (cause ≡ Memory)) × (reply ≡ Err cause) × (read ≡ input)
+      ⊎ ((cause : Cause) × (LacksRules may.hold may.unread c.filters cause ⊎ (cause ≡ Memory)) × (reply ≡ Err cause) × (read ≡ input)
       × (wrote ≡ out))
 
   -- how a request is answered. If the output is a terminal, paths are printed for it, except in a table, and a table has another format if

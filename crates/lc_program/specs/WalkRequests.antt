@@ -1,9 +1,9 @@
 -- What the command line requests of walks.
-use Rattle.std.specs.{Prelude.{◌≡◌, ◌⊎◌, ℕ, if◌then◌else◌, List, map, Option, Result, Ok, Err, Vec}, Borrow.Bor, Global.Global}
+use Rattle.std.specs.{Prelude.{◌≡◌, ◌⊎◌, ℕ, if◌then◌else◌, List, map, Result, Ok, Err, Vec}, Borrow.Bor, Global.Global}
 use Rattle.lc_arguments.specs.declared.walk_request.WalkRequest.{WalkRequest}
 use Rattle.lc_io.specs.Reads.{Answer}
-use Rattle.lc_level.specs.Filters.{FiltersModel}
-use Rattle.lc_program.specs.{Filters.{Excludes, LacksRules, filters_of}, PathLists.{AnswersWanted, GivesList}, Styles.end_for}
+use Rattle.lc_level.specs.Filters.{FiltersModel, narrowed}
+use Rattle.lc_program.specs.{Filters.{AnswersFilters, LacksRules}, PathLists.{AnswersWanted, GivesList}, Styles.end_for}
 use Rattle.lc_program.specs.{Systems.SystemMay, declared.cause.Cause.{Cause, TheVariants.Memory}}
 use Rattle.lc_tree.specs.declared.file_systems.FileSystems.{FileSystems, TheVariants.{All, One}}
 use Rattle.lc_walk.specs.declared.options.{Options.Options, ReportLists.ReportLists}
@@ -30,11 +30,11 @@ module _ (may : SystemMay) {I : Type 0} (may_give : I → ℕ → Answer → I �
   -- a walk has these options: those that the command line requests, by the rules and the paths that were read, and with these lists
   abbrev pub IsPrepared : ReportLists → I → Options → I → Type 0
   IsPrepared wanted input o read =
-      (text : Option (List ℕ)) × Excludes may.hold w.filters.exclude_from text
+      (f : FiltersModel) × AnswersFilters may.hold may.unread w.filters (Ok f)
       × ((paths : Vec (Bor (List ℕ)) Global) × AnswersPathsOf input (Ok paths) read
-      × IsAskedBy w wanted (filters_of w.filters text (map (λ path. path.now) paths.items)) o)
+      × IsAskedBy w wanted (narrowed f (map (λ path. path.now) paths.items)) o)
 
   -- there are no such options: there were no rules or no memory, and nothing was read; or there were no paths
   abbrev pub IsUnprepared : I → Cause → I → Type 0
   IsUnprepared input cause read =
-      ((LacksRules may.hold w.filters cause ⊎ (cause ≡ Memory)) × (read ≡ input)) ⊎ AnswersPathsOf input (Err cause) read
+      ((LacksRules may.hold may.unread w.filters cause ⊎ (cause ≡ Memory)) × (read ≡ input)) ⊎ AnswersPathsOf input (Err cause) read

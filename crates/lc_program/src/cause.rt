@@ -3,7 +3,7 @@
 ghost use Rattle.std.specs.Prelude.{◌≡◌, IfOk, IsErr};
 ghost use Rattle.std.specs.Cow.{cow_str_bytes};
 ghost use Rattle.lc_program.specs.Causes.{HasNumber, cause_line, check_cause, join_cause, print_cause, rules_cause, unread_paths_line};
-ghost use Rattle.lc_program.specs.Causes.{walk_cause};
+ghost use Rattle.lc_program.specs.Causes.{unread_attributes_line, walk_cause};
 ghost use Rattle.lc_program.specs.declared.cause.Cause.TheVariants.{Memory};
 
 use crate::unread_reason::UnreadReason;
@@ -34,6 +34,10 @@ pub enum Cause {
     UnreadRules,
     /// The rules have too many bytes.
     RulesTooLong,
+    /// The attribute file that the command line names could not be read. The field has the reason, if the system gives one.
+    UnreadAttributes(Option<UnreadReason>),
+    /// The attribute file has too many bytes.
+    AttributesTooLong,
     /// The list of paths that the command line names could not be read. The field has the reason, if the system gives one.
     UnreadPaths(Option<UnreadReason>),
     /// The list of paths has too many bytes.
@@ -77,6 +81,21 @@ fn unread_paths_line(why: Option<UnreadReason>) -> &'static str
     }
 }
 
+/// Returns the line about an attribute file that could not be read.
+fn unread_attributes_line(why: Option<UnreadReason>) -> &'static str
+    ensures { result.now ≡ unread_attributes_line why }
+{
+    match why {
+        None | Some(UnreadReason::Other) => "lc: cannot read attributes\n",
+        Some(UnreadReason::Missing) => "lc: cannot read attributes: no such file or directory\n",
+        Some(UnreadReason::Denied) => "lc: cannot read attributes: permission denied\n",
+        Some(UnreadReason::IsDirectory) => "lc: cannot read attributes: is a directory\n",
+        Some(UnreadReason::IsFile | UnreadReason::NotDirectory) => {
+            "lc: cannot read attributes: not a directory\n"
+        }
+    }
+}
+
 impl Cause {
     /// Makes the line for standard error, with its line feed. Only a line with a number allocates memory.
     pub(crate) fn line(&self, alloc: Global) -> Result<CowStr<'_>, AllocError>
@@ -97,7 +116,11 @@ impl Cause {
             }
             Cause::UnreadRules => "lc: cannot read rules\n",
             Cause::RulesTooLong => "lc: rules too long\n",
-            Cause::UnreadPaths(why) => unread_paths_line(*why),
+            Cause::UnreadAttributes(why) => {
+                return Ok(CowStr::Borrowed(unread_attributes_line(*why)));
+            }
+            Cause::UnreadPaths(why) => return Ok(CowStr::Borrowed(unread_paths_line(*why))),
+            Cause::AttributesTooLong => "lc: attributes too long\n",
             Cause::PathsTooLong => "lc: paths too long\n",
             Cause::BadPaths(line)
             | Cause::Nested(line)

@@ -19,6 +19,8 @@ fn first_choice(walk: &WalkRequest<'_>) -> Option<&'static str>
     let filters = &walk.filters;
     if filters.exclude_from.is_some() {
         Some("--exclude-from")
+    } else if filters.attributes_from.is_some() {
+        Some("--attributes-from")
     } else if !filters.exclude.is_empty() {
         Some("--exclude")
     } else if !filters.include.is_empty() {

@@ -194,10 +194,10 @@ fn compare_sides<R: Threads + Wait + Sync + AllocGlobal, Y: System, S: Source, O
     ensures { AnswersSides (may_of Y.Tree.Tree Y.System system.now)
         S.may_give O.may_take format asked.now input.old out.old result input.new out.new }
 {
-    let filters = read_filters(rt.alloc(), system, &asked.walk.filters)?;
     let named = NamedAttributes::new(rt.alloc(), &asked.walk.filters.without)?;
     // Borrowed before the list is, so that the options' references end together.
     let noted = &named;
+    let filters = read_filters(rt.alloc(), system, &asked.walk.filters, Some(noted))?;
     let list = list_of(rt.alloc(), system, asked.walk.only_from, input)?;
     let listed = list.as_slice();
     let only = asked.walk.only.as_slice();

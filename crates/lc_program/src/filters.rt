@@ -1,15 +1,23 @@
 //! The filters of a command line. Together with the rule files in the tree, these filters decide which entries are skipped.
 
-ghost use Rattle.std.specs.Prelude.{◌≡◌, ◌++◌, map, IfOk};
+ghost use Rattle.std.specs.Prelude.{◌≡◌, ◌++◌, true, map, IfErr, IfOk};
+ghost use Rattle.std.specs.Arc.{arc_value};
 ghost use Rattle.lc_level.specs.Filters.{narrowed};
-ghost use Rattle.lc_program.specs.Filters.{AnswersExcluded, AnswersFilters, AnswersPatterns, words_of};
+ghost use Rattle.lc_level.specs.RuleReads.{shared};
+ghost use Rattle.lc_program.specs.Filters.{AnswersExcluded, AnswersFilters, AnswersPatterns, Assigns, IsAttributesCause, LacksAttributes};
+ghost use Rattle.lc_program.specs.Filters.{words_of};
+ghost use Rattle.lc_rules.specs.AttrLines.{attribute_file_of};
 
 use crate::cause::Cause;
+use crate::named_texts::text_in_file;
 use crate::rules_file::rule_text_of_file;
 use crate::system::System;
 use lc_arguments::{FilterRequest, lines_text};
-use lc_level::{Filters, OnlyPaths, RuleText, RulesFileFault, read_rule_text};
+use lc_io::WholeFault;
+use lc_level::{Filters, NamedAttributes, OnlyPaths, RuleText, RulesFileFault, read_rule_text};
+use lc_rules::{AttrFile, MAX_RULE_BYTES};
 use std::alloc::{AllocError, Global};
+use std::sync::Arc;
 
 /// Reads the file of `--exclude-from`, if the option is used.
 fn excluded<Y: System>(
@@ -24,6 +32,51 @@ fn excluded<Y: System>(
     };
     let text = rule_text_of_file(alloc, system, file)?;
     Ok(Some(text))
+}
+
+/// Returns why the file of `--attributes-from` could not be read.
+fn attributes_cause<Y: System>(alloc: Global, system: &Y, name: &str, fault: WholeFault) -> Cause
+    ensures { IsAttributesCause (Y.holds system.now) (Y.unreads system.now) name.now fault result }
+{
+    match fault {
+        WholeFault::Read => Cause::UnreadAttributes(system.why_unread(alloc, name)),
+        WholeFault::TooLong => Cause::AttributesTooLong,
+        WholeFault::Memory => Cause::Memory,
+    }
+}
+
+/// Reads at most [`MAX_RULE_BYTES`] bytes as an attribute file that may define macros.
+fn attribute_file(alloc: Global, bytes: &[u8]) -> Result<Arc<AttrFile, Global>, AllocError>
+    ensures { IfOk result (λ file. arc_value file ≡ attribute_file_of true bytes.now) }
+{
+    match AttrFile::read(alloc, bytes, true) {
+        Ok(file) => Ok(Arc::new(alloc, file)?),
+        Err(_) => Err(AllocError),
+    }
+}
+
+/// Reads the file of `--attributes-from`, if the option is used, and notes which attributes it names.
+fn attributes_from<Y: System>(
+    alloc: Global,
+    system: &Y,
+    file: Option<&str>,
+    named: Option<&NamedAttributes>,
+) -> Result<Option<Arc<AttrFile, Global>>, Cause>
+    ensures read { IfOk result (λ read. Assigns (Y.holds system.now) file.entry (shared read)) }
+    ensures unread { IfErr result (LacksAttributes (Y.holds system.now) (Y.unreads system.now) file.entry) }
+{
+    let Some(name) = file else {
+        return Ok(None);
+    };
+    match text_in_file(alloc, system, MAX_RULE_BYTES as u32, name) {
+        Ok(bytes) => {
+            if let Some(named) = named {
+                named.note(&bytes);
+            }
+            Ok(Some(attribute_file(alloc, &bytes)?))
+        }
+        Err(fault) => Err(attributes_cause(alloc, system, name, fault)),
+    }
 }
 
 /// Reads patterns as the lines of a rule file, if there are any.
@@ -77,32 +130,39 @@ pub(crate) fn narrowed<'p>(
     let only = OnlyPaths::new(alloc, paths)?;
     Ok(Filters {
         exclude_from: filters.exclude_from,
+        attributes_from: filters.attributes_from,
         exclude: filters.exclude,
         include: filters.include,
         no_ignore: filters.no_ignore,
         without: filters.without,
         only,
+        asked: filters.asked,
     })
 }
 
-/// Reads the filters of a command line, except the paths of `--only` and `--only-from`.
+/// Reads the filters of a command line, except the paths of `--only` and `--only-from`, and notes which attributes the file of
+/// `--attributes-from` names.
 pub(crate) fn read_filters<'p, Y: System>(
     alloc: Global,
     system: &Y,
     asked: &FilterRequest<'_>,
+    named: Option<&NamedAttributes>,
 ) -> Result<Filters<'p>, Cause>
-    ensures { AnswersFilters (Y.holds system.now) asked.now result }
+    ensures { AnswersFilters (Y.holds system.now) (Y.unreads system.now) asked.now result }
 {
     let exclude_from = excluded(alloc, system, asked.exclude_from)?;
+    let attributes_from = attributes_from(alloc, system, asked.attributes_from, named)?;
     let exclude = rules_of_patterns(alloc, &asked.exclude)?;
     let include = rules_of_patterns(alloc, &asked.include)?;
     let without = words_of(alloc, asked.archive, &asked.without)?;
     Ok(Filters {
         exclude_from,
+        attributes_from,
         exclude,
         include,
         no_ignore: asked.no_ignore,
         without,
         only: OnlyPaths::none(alloc),
+        asked: Vec::new(alloc),
     })
 }

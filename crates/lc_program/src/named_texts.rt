@@ -22,7 +22,7 @@ fn read_text<S: Source>(alloc: Global, limit: u32, text: &mut S) -> Result<Vec<u
 }
 
 /// Reads the text of the file with this name.
-fn text_in_file<Y: System>(
+pub(crate) fn text_in_file<Y: System>(
     alloc: Global,
     system: &Y,
     limit: u32,

@@ -43,7 +43,7 @@ fn tally_of(alloc: Global, files: &[FileLine]) -> Result<Tally, AllocError>
         if tally.totals().files >= 1 << 62 {
             return Err(AllocError);
         }
-        tally.add(extension(name_of(&file.path)), file.text, file.count)?;
+        tally.add(extension(name_of(&file.path)), file.text(), file.count)?;
         rest = others;
     }
     Ok(tally)

@@ -10,7 +10,7 @@ use crate::read_fault::{NoReport, ReadFault};
 use crate::values::count_in;
 use json::Value;
 use lc_census::Count;
-use lc_level::FileLine;
+use lc_level::{FileAttributes, FileLine};
 use std::alloc::Global;
 
 fn count_of<'a>(members: &[(&'a str, Value<'a>)]) -> Result<Count, NoReport>
@@ -38,5 +38,10 @@ pub(crate) fn file_of<'a>(
     let path = entry_path_in(alloc, members)?;
     let text = text_state_in(members)?;
     let count = count_of(members)?;
-    Ok(FileLine { path, text, count })
+    let attributes = FileAttributes::of_text(alloc, text)?;
+    Ok(FileLine {
+        path,
+        attributes,
+        count,
+    })
 }

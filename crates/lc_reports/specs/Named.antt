@@ -37,7 +37,7 @@ named_reason name (other_kind what) = other_kind what
 -- ---- lines
 
 abbrev pub named_file : List ℕ → FileLineModel → FileLineModel
-named_file name f = record { path = named_path name f.path; text = f.text; count = f.count }
+named_file name f = record { path = named_path name f.path; text = f.text; asked = f.asked; count = f.count }
 
 abbrev pub named_fault : List ℕ → FaultLineModel → FaultLineModel
 named_fault name f = record { path = named_path name f.path; word = f.word }

@@ -25,7 +25,7 @@ impl PathLine for FileLine {
     fn with_name(self, alloc: Global, name: &[u8]) -> Result<FileLine, AllocError> {
         Ok(FileLine {
             path: named_path(alloc, name, &self.path)?,
-            text: self.text,
+            attributes: self.attributes,
             count: self.count,
         })
     }

@@ -109,7 +109,7 @@ fn add_file(tally: &mut Tally, file: &FileLine) -> Result<(), AllocError>
     if tally.totals().files >= 1 << 63 {
         return Err(AllocError);
     }
-    tally.add(extension(name_of(&file.path)), file.text, file.count)
+    tally.add(extension(name_of(&file.path)), file.text(), file.count)
 }
 
 /// Makes the tally of some files.

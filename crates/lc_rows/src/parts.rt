@@ -112,7 +112,7 @@ fn file_part<'a>(by: Columns, depth: usize, file: &'a FileLine) -> Part<'a, 'a>
         by,
         KeyRef {
             extension: extension(name),
-            text: file.text,
+            text: file.text(),
             eol: file.count.eol,
         },
     );

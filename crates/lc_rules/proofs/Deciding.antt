@@ -2,7 +2,7 @@
 use Rattle.std.proofs.Common.{◌≡◌, ℕ, Bool, false, List, [], ◌∷◌, ◌++◌, Option, Some, None, refl, sym, ◌∙◌, ap, subst, unwrap_or}
 use Rattle.std.specs.List.{list_any}
 use Rattle.lc_rules.specs.{Attributes.{StateModel, unspecified, AssignmentModel}, AttrLines.AttrFileModel, AttrStates.AttrChainModel}
-use Rattle.lc_rules.specs.AttrStates.{assignments_of, by_lines, info_assignments, macros_of, state_of, tree_assignments}
+use Rattle.lc_rules.specs.AttrStates.{assignments_of, by_lines, file_assignments, macros_of, state_of, tree_assignments}
 use Rattle.lc_rules.specs.{Models.{state_model, seen_state}, KnownMacros.{macros_for, matters}, Resolving.{IsReady, Moves}}
 use Rattle.lc_rules.specs.{Resolving.{ReadsAssignments, Decides, names_in, stacked}, Verdicts.below}
 use Rattle.lc_rules.specs.declared.{resolver.{Query.Query, Resolver.Resolver}, states.State.State}
@@ -133,25 +133,39 @@ module _ (files nearer : List (ℕ × AttrFileModel)) (depth : ℕ) (file : Attr
       (rest_decides is (subst (λ p. Decides query (tree_assignments nearer p is_dir) old passed middle) same d)
       (subst (λ p. Decides query (by_lines file.lines p is_dir) middle found new) cut e))
 
--- of a chain by its parts, the files of the tree and that of `.git/info`
-module _ (files : AttrChainModel) (tree : List (ℕ × AttrFileModel)) (info : Option AttrFileModel)
-    (parts : record { tree = tree; info = info } ≡ files) (path : List ℕ) (is_dir : Bool) where
+-- of a chain by its parts: the lowest file, the files of the tree, and that of `.git/info`
+module _ (files : AttrChainModel) (lowest : Option AttrFileModel) (tree : List (ℕ × AttrFileModel)) (info : Option AttrFileModel)
+    (parts : record { lowest = lowest; tree = tree; info = info } ≡ files) (path : List ℕ) (is_dir : Bool) where
   -- the file of `.git/info` decides
   pub info_decides : {query : Query} {old new : Resolver} {found : Option State} {state : State} → found ≡ Some state
-      → Decides query (info_assignments info path is_dir) old found new
+      → Decides query (file_assignments info path is_dir) old found new
       → Decides query (assignments_of files path is_dir) old (Some state) new
   info_decides {query} {old} {new} {found} {state} is d =
       subst (λ (f : AttrChainModel). Decides query (assignments_of f path is_dir) old (Some state) new) parts
-      (first_decides (tree_assignments tree path is_dir) is d)
+      (first_decides (file_assignments lowest path is_dir) refl (first_decides (tree_assignments tree path is_dir) is d))
 
   -- where it finds nothing, the files of the tree do
-  pub tree_decides : {query : Query} {old middle new : Resolver} {passed found : Option State} (left : List (ℕ × AttrFileModel))
-      (whole : List ℕ) → left ≡ tree → whole ≡ path → passed ≡ None → Decides query (info_assignments info path is_dir) old passed middle
-      → Decides query (tree_assignments left whole is_dir) middle found new → Decides query (assignments_of files path is_dir) old found new
-  tree_decides {query} {old} {middle} {new} {passed} {found} left whole all same is d e =
-      subst (λ (f : AttrChainModel). Decides query (assignments_of f path is_dir) old found new) parts
-      (rest_decides is d (subst (λ fs. Decides query (tree_assignments fs path is_dir) middle found new) all
-      (subst (λ p. Decides query (tree_assignments left p is_dir) middle found new) same e)))
+  module _ (left : List (ℕ × AttrFileModel)) (whole : List ℕ) (all : left ≡ tree) (same : whole ≡ path) {query : Query}
+      {old middle new : Resolver} {passed found : Option State} (none : passed ≡ None)
+      (d : Decides query (file_assignments info path is_dir) old passed middle)
+      (e : Decides query (tree_assignments left whole is_dir) middle found new) where
+    by_tree : Decides query (tree_assignments tree path is_dir) middle found new
+    by_tree =
+        subst (λ fs. Decides query (tree_assignments fs path is_dir) middle found new) all
+        (subst (λ p. Decides query (tree_assignments left p is_dir) middle found new) same e)
+
+    pub tree_decides : {state : State} → found ≡ Some state → Decides query (assignments_of files path is_dir) old (Some state) new
+    tree_decides {state} is =
+        subst (λ (f : AttrChainModel). Decides query (assignments_of f path is_dir) old (Some state) new) parts
+        (first_decides (file_assignments lowest path is_dir) is (rest_decides none d by_tree))
+
+    -- where they find nothing, the lowest file does
+    pub lowest_decides : {last : Resolver} {at_last : Option State} → found ≡ None
+        → Decides query (file_assignments lowest path is_dir) new at_last last
+        → Decides query (assignments_of files path is_dir) old at_last last
+    lowest_decides {last} {at_last} is f =
+        subst (λ (c : AttrChainModel). Decides query (assignments_of c path is_dir) old at_last last) parts
+        (rest_decides is (rest_decides none d by_tree) f)
 
 -- once all is read, the state of the attribute is found
 pub state_decides : (files : AttrChainModel) (query : Query) (path : List ℕ) (is_dir : Bool) {old new : Resolver} {found : Option State}

@@ -8,6 +8,7 @@ pub mod RuleLineNumbers
 pub mod WordCuts
 pub mod AttrReading
 pub mod DecisionLaws
+mod LowestFile
 pub mod OneName
 pub mod Moving
 pub mod Deciding

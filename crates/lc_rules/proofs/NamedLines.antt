@@ -84,7 +84,9 @@ none_named-binary lines h n e = by_cases (bytes_eq binary.0 n) refl e
     by_cases true p q = ap (lines_name lines) (sym (same_bytes binary.0 n p)) ∙ h
     by_cases false p q = absurd (let s : false ≡ true = q in cc)
 
--- nor does a line name `binary` or a macro of either list
-pub none_named : (lines : List PatternLineModel) (ms os : List MacroModel) → lines_name lines binary.0 ≡ false → NameNone lines ms
-    → NameNone lines os → NameNone lines (binary ∷ ms ++ os)
-none_named lines ms os h k m = none_named-both lines (binary ∷ []) (ms ++ os) (none_named-binary lines h) (none_named-both lines ms os k m)
+-- nor does a line name `binary` or a macro of any of the lists
+pub none_named : (lines : List PatternLineModel) (ls ms os : List MacroModel) → lines_name lines binary.0 ≡ false → NameNone lines ls
+    → NameNone lines ms → NameNone lines os → NameNone lines (binary ∷ ls ++ ms ++ os)
+none_named lines ls ms os h j k m =
+    none_named-both lines (binary ∷ []) (ls ++ ms ++ os) (none_named-binary lines h)
+    (none_named-both lines (ls ++ ms) os (none_named-both lines ls ms j k) m)

@@ -33,4 +33,13 @@ attr_chain_send = search (attr_file_send, attr_file_sync, sendable, below.crosse
 pub attr_chain_sync : IsSync AttrChain.the_row
 attr_chain_sync = search (attr_file_send, attr_file_sync, sendable, below.crosses) depth 100 fits 20000
 
-pub ruleset crosses = (ignore_file_send, ignore_file_sync, chain_send, chain_sync, attr_chain_send, attr_chain_sync)
+pub ruleset crosses = (
+  ignore_file_send,
+  ignore_file_sync,
+  chain_send,
+  chain_sync,
+  attr_file_send,
+  attr_file_sync,
+  attr_chain_send,
+  attr_chain_sync,
+)

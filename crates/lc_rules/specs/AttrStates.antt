@@ -9,9 +9,10 @@ use Rattle.lc_rules.specs.declared.states.TextState.TheVariants.{Set, Unset, Aut
 abbrev pub binary : MacroModel
 binary = (codes "binary", (codes "diff", unset) ∷ (codes "merge", unset) ∷ (codes "text", unset) ∷ [])
 
--- the files of a chain: those of the tree from the top down, each with its depth, and that of `.git/info`, which overrides
--- them all
+-- the files of a chain: the lowest, which all others override; those of the tree from the top down, each with its depth; and that of
+-- `.git/info`, which overrides them all
 pub record AttrChainModel : Type 0 where
+  pub lowest : Option AttrFileModel
   pub tree : List (ℕ × AttrFileModel)
   pub info : Option AttrFileModel
 
@@ -20,14 +21,14 @@ abbrev pub top_macros : List (ℕ × AttrFileModel) → List MacroModel
 top_macros [] = []
 top_macros (f ∷ fs) = if f.1.is_top then f.1.macros else []
 
--- the macros that the file of `.git/info` defines
-abbrev pub info_macros : Option AttrFileModel → List MacroModel
-info_macros None = []
-info_macros (Some f) = f.macros
+-- the macros that a file for the whole tree defines, if there is one
+abbrev pub file_macros : Option AttrFileModel → List MacroModel
+file_macros None = []
+file_macros (Some f) = f.macros
 
--- the macros that a chain knows: `binary` as built in, then those of the top file, then those of `.git/info`
+-- the macros that a chain knows: `binary` as built in, then those of the lowest file, of the top file, and of `.git/info`
 abbrev pub macros_of : AttrChainModel → List MacroModel
-macros_of files = binary ∷ top_macros files.tree ++ info_macros files.info
+macros_of files = binary ∷ file_macros files.lowest ++ top_macros files.tree ++ file_macros files.info
 
 -- the assignments of a line, from right to left, if the line matches the path
 abbrev pub by_line : PatternLineModel → List ℕ → Bool → List AssignmentModel
@@ -43,14 +44,15 @@ abbrev pub tree_assignments : List (ℕ × AttrFileModel) → List ℕ → Bool 
 tree_assignments [] path is_dir = []
 tree_assignments (f ∷ fs) path is_dir = tree_assignments fs path is_dir ++ by_lines f.1.lines (below f.0 path) is_dir
 
--- the assignments of the file of `.git/info` for a path; the file is matched with the whole path
-abbrev pub info_assignments : Option AttrFileModel → List ℕ → Bool → List AssignmentModel
-info_assignments None path is_dir = []
-info_assignments (Some f) path is_dir = by_lines f.lines path is_dir
+-- the assignments of a file for the whole tree, if there is one; the file is matched with the whole path
+abbrev pub file_assignments : Option AttrFileModel → List ℕ → Bool → List AssignmentModel
+file_assignments None path is_dir = []
+file_assignments (Some f) path is_dir = by_lines f.lines path is_dir
 
--- the assignments of all lines that match, highest precedence first: those of `.git/info`, then those of the tree
+-- the assignments of all lines that match, highest precedence first: those of `.git/info`, of the tree, and of the lowest file
 abbrev pub assignments_of : AttrChainModel → List ℕ → Bool → List AssignmentModel
-assignments_of files path is_dir = info_assignments files.info path is_dir ++ tree_assignments files.tree path is_dir
+assignments_of files path is_dir =
+    file_assignments files.info path is_dir ++ tree_assignments files.tree path is_dir ++ file_assignments files.lowest path is_dir
 
 -- the state of an attribute for a path: what the decision of all names has for its name
 abbrev pub state_of : AttrChainModel → List ℕ → Bool → List ℕ → StateModel

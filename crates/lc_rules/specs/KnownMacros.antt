@@ -11,9 +11,9 @@ abbrev pub defined_in : Option (Bor (List MacroModel)) → List MacroModel
 defined_in None = []
 defined_in (Some table) = table.now
 
--- the macro `binary`, and the macros of both tables
+-- the macro `binary`, and the macros of each table
 abbrev pub known_macros : KnownMacros → List MacroModel
-known_macros m = binary ∷ defined_in m.top ++ defined_in m.info
+known_macros m = binary ∷ defined_in m.lowest ++ defined_in m.top ++ defined_in m.info
 
 -- the assignments of a macro
 abbrev pub macro_body_model : MacroBody → List AssignmentModel

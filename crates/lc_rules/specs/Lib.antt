@@ -16,6 +16,7 @@ pub mod AttrLines
 pub mod Decision
 pub mod AttrStates
 pub mod AttrChains
+pub mod AttrLaws
 pub mod WrittenLines
 pub mod Models
 pub mod MacroPlaces

@@ -2,9 +2,9 @@
 
 ghost use Rattle.std.specs.Prelude.{◌≡◌, false, IfOk, codes};
 ghost use Rattle.lc_rules.specs.Models.{state_model};
-ghost use Rattle.lc_rules.specs.AttrStates.{macros_of, top_macros, info_macros, by_lines, tree_assignments, info_assignments};
+ghost use Rattle.lc_rules.specs.AttrStates.{macros_of, top_macros, file_macros, by_lines, tree_assignments, file_assignments};
 ghost use Rattle.lc_rules.specs.AttrStates.{assignments_of, state_of, as_text};
-ghost use Rattle.lc_rules.specs.AttrChains.{no_files, with_tree_file, with_info_file};
+ghost use Rattle.lc_rules.specs.AttrChains.{from_lowest, with_tree_file, with_info_file};
 ghost use Rattle.lc_rules.specs.Chains.{lent};
 ghost use Rattle.lc_rules.specs.Resolving.{IsReady, Decides};
 ghost use Rattle.lc_rules.specs.KnownMacros.{known_macros, defined_in};
@@ -60,30 +60,32 @@ fn decide_by_files<'a>(
     Ok(found)
 }
 
-/// Looks for the state of an attribute in the lines of `.git/info/attributes`, if there is such a file.
-fn decide_by_info<'a>(
+/// Looks for the state of an attribute in the lines of a file for the whole tree, if there is such a file.
+fn decide_by_optional_file<'a>(
     query: Query<'_, 'a>,
-    info: &'a Option<Arc<AttrFile, Global>>,
+    file: &'a Option<Arc<AttrFile, Global>>,
     path: &[u8],
     is_dir: bool,
     resolver: &mut Resolver<'a>,
 ) -> Result<Option<State<'a>>, AllocError>
     requires { IsReady query resolver.old }
-    ensures { IfOk result (λ r. Decides query.entry (info_assignments (lent info.now) path.now is_dir) resolver.old r resolver.new) }
+    ensures { IfOk result (λ r. Decides query.entry (file_assignments (lent file.now) path.now is_dir) resolver.old r resolver.new) }
 {
-    let Some(file) = info else {
+    let Some(file) = file else {
         return Ok(None);
     };
     decide_by_file(query, file, path, is_dir, resolver)
 }
 
-/// The attribute files for a directory's entries, from the lowest precedence to the highest: the files of the tree from the top down, each
-/// with the depth of its directory, then the file of `.git/info`.
+/// The attribute files for a directory's entries, from the lowest precedence to the highest: a file for the whole tree, like the one of
+/// Git's `core.attributesFile` (gitattributes(5), FILES); the files of the tree from the top down, each with the depth of its directory;
+/// then the file of `.git/info`.
 ///
-/// The chain knows the built-in macro `binary`, the macros of the tree's first file if `AttrFile::is_top` holds for this file, and the
-/// macros of `.git/info`. If macros have the same name, the macro that is later in this order overrides the others.
+/// The chain knows the built-in macro `binary`, the macros of its lowest file, those of the tree's first file if `AttrFile::is_top` holds
+/// for this file, and those of `.git/info`. If macros have the same name, the macro that is later in this order overrides the others.
 #[derive(Drop)]
 pub struct AttrChain {
+    lowest: Option<Arc<AttrFile, Global>>,
     files: ChainFiles<AttrFile>,
     info: Option<Arc<AttrFile, Global>>,
 }
@@ -94,15 +96,17 @@ impl Model for AttrChain {
 
     ghost Value = { AttrChainModel };
 
-    ghost view = { λ c. record { tree = c.files; info = lent c.info } };
+    ghost view = { λ c. record { lowest = lent c.lowest; tree = c.files; info = lent c.info } };
 }
 
 impl AttrChain {
-    /// Returns the chain that has no file yet. The chain knows one macro, `binary`.
-    pub fn top() -> AttrChain
-        ensures { result ≡ no_files }
+    /// Returns the chain that has at most a lowest file, which every other file overrides. The file defines macros only if
+    /// `AttrFile::read` read it with `top` true.
+    pub fn top_with(lowest: Option<Arc<AttrFile, Global>>) -> AttrChain
+        ensures { result ≡ from_lowest lowest }
     {
         AttrChain {
+            lowest,
             files: ChainFiles::new(),
             info: None,
         }
@@ -120,7 +124,12 @@ impl AttrChain {
     {
         let files = self.files.with(alloc, depth, file)?;
         let info = share(&self.info)?;
-        Ok(AttrChain { files, info })
+        let lowest = share(&self.lowest)?;
+        Ok(AttrChain {
+            lowest,
+            files,
+            info,
+        })
     }
 
     /// Returns the chain with the file `.git/info/attributes`, or a copy if `file` is `None`. This file overrides every other file of the
@@ -134,12 +143,16 @@ impl AttrChain {
         ensures { IfOk result (λ chain. chain ≡ with_info_file self.now file) }
     {
         let files = self.files.with(alloc, 0, None)?;
-        let Some(file) = file else {
-            let info = share(&self.info)?;
-            return Ok(AttrChain { files, info });
+        let lowest = share(&self.lowest)?;
+        let info = match file {
+            None => share(&self.info)?,
+            Some(file) => Some(file),
         };
-        let info = Some(file);
-        Ok(AttrChain { files, info })
+        Ok(AttrChain {
+            lowest,
+            files,
+            info,
+        })
     }
 
     /// Returns the state of an attribute for a path. If no assignment decides the attribute, its state is unspecified.
@@ -179,7 +192,7 @@ impl AttrChain {
         }
     }
 
-    /// Looks for the state of an attribute in the files of the chain, first in `.git/info/attributes`.
+    /// Looks for the state of an attribute in the files of the chain, first in `.git/info/attributes`, last in the lowest file.
     fn decide<'a>(
         &'a self,
         query: Query<'_, 'a>,
@@ -190,19 +203,23 @@ impl AttrChain {
         requires { IsReady query resolver.old }
         ensures { IfOk result (λ r. Decides query.entry (assignments_of self.now path.now is_dir) resolver.old r resolver.new) }
     {
-        if let Some(state) = decide_by_info(query, &self.info, path, is_dir, resolver)? {
+        if let Some(state) = decide_by_optional_file(query, &self.info, path, is_dir, resolver)? {
             return Ok(Some(state));
         }
         let whole = PathBelow::new(path);
-        decide_by_files(query, self.files.left(), whole, is_dir, resolver)
+        if let Some(state) = decide_by_files(query, self.files.left(), whole, is_dir, resolver)? {
+            return Ok(Some(state));
+        }
+        decide_by_optional_file(query, &self.lowest, path, is_dir, resolver)
     }
 
     fn macros(&self) -> KnownMacros
         ensures { known_macros result ≡ macros_of self.now }
     {
         KnownMacros {
+            lowest: file_macros(&self.lowest),
             top: top_macros(self.files.left()),
-            info: info_macros(&self.info),
+            info: file_macros(&self.info),
         }
     }
 }
@@ -219,10 +236,10 @@ fn top_macros<'a>(files: FilesLeft<'a, AttrFile>) -> Option<&'a MacroTable>
     }
 }
 
-fn info_macros<'a>(info: &'a Option<Arc<AttrFile, Global>>) -> Option<&'a MacroTable>
-    ensures { defined_in result ≡ info_macros (lent info.now) }
+fn file_macros<'a>(file: &'a Option<Arc<AttrFile, Global>>) -> Option<&'a MacroTable>
+    ensures { defined_in result ≡ file_macros (lent file.now) }
 {
-    match info {
+    match file {
         None => None,
         Some(file) => Some(file.macros()),
     }

@@ -21,9 +21,11 @@ pub(crate) enum MacroBody<'a> {
     Binary,
 }
 
-/// The macros that a chain of attribute files knows: `binary`, then those of its top file, then those of the file of `.git/info`.
+/// The macros that a chain of attribute files knows: `binary`, then those of its lowest file, of its top file, and of the file of
+/// `.git/info`.
 #[derive(Clone, Copy)]
 pub(crate) struct KnownMacros<'a> {
+    pub(crate) lowest: Option<&'a MacroTable>,
     pub(crate) top: Option<&'a MacroTable>,
     pub(crate) info: Option<&'a MacroTable>,
 }
@@ -38,6 +40,9 @@ impl<'a> KnownMacros<'a> {
             return Some(MacroBody::Defined(assignments));
         }
         if let Some(assignments) = find_in(self.top, name) {
+            return Some(MacroBody::Defined(assignments));
+        }
+        if let Some(assignments) = find_in(self.lowest, name) {
             return Some(MacroBody::Defined(assignments));
         }
         if name == b"binary".as_slice() {

@@ -1,5 +1,6 @@
-//! Laws: theorems about the definitions of ignore files that the contracts cite. Each law is the contract of a function that does nothing.
+//! Laws: theorems about the definitions of rule files that the contracts cite. Each law is the contract of a function that does nothing.
 
+ghost use Rattle.lc_rules.specs.AttrLaws.{EmptyFileLaw, LowestFileLaw};
 ghost use Rattle.lc_rules.specs.CanMatch.{CanMatchLaw};
 ghost use Rattle.lc_rules.specs.IgnoreLaws.{CommandLineLaw, LastMatchLaw, LinesLaw};
 
@@ -24,4 +25,11 @@ pub fn rules_stand_on_their_lines()
 /// The law that a line for which `can_match` is false gives no rule, or a rule that matches no path of an entry.
 pub fn what_cannot_match_gives_nothing()
     ensures { CanMatchLaw }
+{}
+
+/// The law about the lowest file of a chain of attribute files. If the file defines no macro, and the other files decide an attribute for a
+/// path, the attribute's state is what it is without the lowest file. An empty lowest file changes no state.
+pub fn the_lowest_file_is_overridden()
+    ensures lowest { LowestFileLaw }
+    ensures empty { EmptyFileLaw }
 {}

@@ -62,7 +62,7 @@ pub use ignore_file::IgnoreFile;
 pub use ignore_line::{Rule, text_of_line};
 pub use laws::{
     rules_stand_on_their_lines, the_command_line_decides, the_last_match_decides,
-    what_cannot_match_gives_nothing,
+    the_lowest_file_is_overridden, what_cannot_match_gives_nothing,
 };
 pub use lines::Lines;
 pub use matchable::can_match;

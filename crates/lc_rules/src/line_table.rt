@@ -140,6 +140,9 @@ impl LineTable {
         if self.may_name(b"binary") {
             return true;
         }
+        if self.may_name_some_in(macros_in(macros.lowest)) {
+            return true;
+        }
         if self.may_name_some_in(macros_in(macros.top)) {
             return true;
         }

@@ -2,7 +2,9 @@
 
 use crate::sketch::content;
 use lc_level::{Filters, OnlyPaths, RuleText, RulesFileFault, read_rule_text};
+use lc_rules::{AttrFile, RuleFault};
 use std::alloc::{AllocError, Global};
+use std::sync::Arc;
 
 /// A request for a walk, or for opening one directory, read from options as on a command line.
 #[derive(Drop)]
@@ -13,18 +15,20 @@ pub struct Asked<'a> {
     /// Whether each word of the request is a known option or a path of `--only`.
     pub is_known: bool,
     exclude_from: Option<Vec<u8>>,
+    attributes_from: Option<Vec<u8>>,
     /// The patterns of `--exclude`, each followed by a line feed. `include` has the patterns of `--include` in this form.
     exclude: Vec<u8>,
     include: Vec<u8>,
     no_ignore: bool,
     without: Vec<&'a [u8]>,
     only: Vec<&'a [u8]>,
+    asked: Vec<&'a [u8]>,
 }
 
 impl<'a> Asked<'a> {
-    /// Reads a request from words. A word is an option of `lc count`, with `=` before its value, or a path of `--only`. The value of
-    /// `--exclude-from` is the contents of the file, written as in a sketch (see `tree`). If there is no `--max-dirs`, a walk may visit 100
-    /// directories.
+    /// Reads a request from words. A word is an option of `lc count`, with `=` before its value, or a path of `--only`; `--asks=ATTR` asks
+    /// for an attribute. The value of `--exclude-from` or `--attributes-from` is the contents of the file, written as in a sketch (see
+    /// `tree`). If there is no `--max-dirs`, a walk may visit 100 directories.
     pub fn read(alloc: Global, words: &'a str) -> Result<Asked<'a>, AllocError> {
         let mut asked = Asked {
             files: false,
@@ -32,11 +36,13 @@ impl<'a> Asked<'a> {
             max_dirs: 100,
             is_known: true,
             exclude_from: None,
+            attributes_from: None,
             exclude: Vec::new(alloc),
             include: Vec::new(alloc),
             no_ignore: false,
             without: Vec::new(alloc),
             only: Vec::new(alloc),
+            asked: Vec::new(alloc),
         };
         for word in words.split_ascii_whitespace() {
             asked.put(alloc, word)?;
@@ -58,6 +64,10 @@ impl<'a> Asked<'a> {
             self.without.push(value.as_bytes())?;
         } else if option == "--exclude-from" {
             self.exclude_from = Some(content(alloc, value)?);
+        } else if option == "--attributes-from" {
+            self.attributes_from = Some(content(alloc, value)?);
+        } else if option == "--asks" {
+            self.asked.push(value.as_bytes())?;
         } else if option == "--exclude" {
             push_line(&mut self.exclude, value)?;
         } else if option == "--include" {
@@ -72,22 +82,39 @@ impl<'a> Asked<'a> {
 
     /// Returns the filters of the request.
     pub fn filters(&self, alloc: Global) -> Result<Filters<'_>, AllocError> {
-        let mut without = Vec::new(alloc);
-        for word in &self.without {
-            without.push(word.to_vec(alloc)?)?;
-        }
         let exclude_from = match &self.exclude_from {
             Some(rules) => Some(rule_text(alloc, rules)?),
             None => None,
         };
+        let attributes_from = match &self.attributes_from {
+            Some(lines) => Some(attributes(alloc, lines)?),
+            None => None,
+        };
         Ok(Filters {
             exclude_from,
+            attributes_from,
             exclude: some_rules(alloc, &self.exclude)?,
             include: some_rules(alloc, &self.include)?,
             no_ignore: self.no_ignore,
-            without,
+            without: copies(alloc, &self.without)?,
             only: OnlyPaths::new(alloc, &self.only)?,
+            asked: copies(alloc, &self.asked)?,
         })
+    }
+}
+
+fn copies(alloc: Global, words: &[&[u8]]) -> Result<Vec<Vec<u8>>, AllocError> {
+    let mut copies = Vec::new(alloc);
+    for word in words {
+        copies.push(word.to_vec(alloc)?)?;
+    }
+    Ok(copies)
+}
+
+fn attributes(alloc: Global, lines: &[u8]) -> Result<Arc<AttrFile, Global>, AllocError> {
+    match AttrFile::read(alloc, lines, true) {
+        Ok(file) => Ok(Arc::new(alloc, file)?),
+        Err(RuleFault::TooLong) | Err(RuleFault::Memory) => Err(AllocError),
     }
 }
 

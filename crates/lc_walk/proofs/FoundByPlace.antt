@@ -58,15 +58,17 @@ named_by_reason : (n : List ℕ) (out : Reason → Fate) (own : Fate) (o : Optio
 named_by_reason n out own None outs is = is
 named_by_reason n out own (Some reason) outs is = outs reason
 
-named_by_count : (n : List ℕ) (k : JobModel) (c : Result Count FaultWord) → counted_name n (file_fate k n c) ≡ n
-named_by_count n k (Ok count) = refl
-named_by_count n k (Err word) = refl
+named_by_count : (filters : FiltersModel) (n : List ℕ) (k : JobModel) (c : Result Count FaultWord)
+    → counted_name n (file_fate filters k n c) ≡ n
+named_by_count filters n k (Ok count) = refl
+named_by_count filters n k (Err word) = refl
 
 -- it is that of its item
 counted_named : (filters : FiltersModel) (k : JobModel) (item : Item) →
     counted_name (name_of item) (fate_of filters k item) ≡ name_of item
 counted_named filters k (file_item n c rules) =
-    named_by_reason n (skipped File) (file_fate k n c) (file_reason filters k n) (λ reason. refl) (named_by_count n k c)
+    named_by_reason n (skipped File) (file_fate filters k n c) (file_reason filters k n) (λ reason. refl)
+    (named_by_count filters n k c)
 counted_named filters k (directory_item n) =
     named_by_reason n (skipped Dir) (walked (child_job k n)) (reason_of filters k n true) (λ reason. refl) refl
 counted_named filters k (other_item n what) =

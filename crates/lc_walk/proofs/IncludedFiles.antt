@@ -45,12 +45,12 @@ module _ (s : FiltersModel) (text : Option (List ℕ)) where
     where
       by : (o : Option Reason) (b : Bool) (r : Result Count FaultWord) → b ≡ is_included (patterns_for patterns d) (path_in d n)
           → flat_map counted_in (by_name d n
-          (option_map_or (skipped File) (option_or o (cond b None (Some not_included))) (file_fate j n r)))
+          (option_map_or (skipped File) (option_or o (cond b None (Some not_included))) (file_fate s j n r)))
           ≡ filter (includes patterns)
-          (flat_map counted_in (by_name d n (option_map_or (skipped File) (option_or o None) (file_fate j n r))))
+          (flat_map counted_in (by_name d n (option_map_or (skipped File) (option_or o None) (file_fate s j n r))))
       by (Some reason) b r is = refl
-      by None true (Ok count) is = ap (λ x. cond x (flat_map counted_in (by_name d n (file_fate j n (Ok count)))) []) is
-      by None false (Ok count) is = ap (λ x. cond x (flat_map counted_in (by_name d n (file_fate j n (Ok count)))) []) is
+      by None true (Ok count) is = ap (λ x. cond x (flat_map counted_in (by_name d n (file_fate s j n (Ok count)))) []) is
+      by None false (Ok count) is = ap (λ x. cond x (flat_map counted_in (by_name d n (file_fate s j n (Ok count)))) []) is
       by None true (Err word) is = refl
       by None false (Err word) is = refl
   counted_one d j (directory_item n) at = by (reason_of whole j n true)

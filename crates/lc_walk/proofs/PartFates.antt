@@ -22,13 +22,13 @@ fits_by : (kind : Kind) (own : Fate) → IsFateOf own kind → (o : Option Reaso
 fits_by kind own is None = is
 fits_by kind own is (Some reason) = refl
 
-fits_count : (k : JobModel) (n : List ℕ) (c : Result Count FaultWord) → IsFateOf (file_fate k n c) File
-fits_count k n (Ok count) = refl
-fits_count k n (Err word) = refl
+fits_count : (s : FiltersModel) (k : JobModel) (n : List ℕ) (c : Result Count FaultWord) → IsFateOf (file_fate s k n c) File
+fits_count s k n (Ok count) = refl
+fits_count s k n (Err word) = refl
 
 -- each has one that fits it
 pub fits : (s : FiltersModel) (k : JobModel) (item : Item) → IsFateOf (fate_of s k item) (entry_of item).kind
-fits s k (file_item n c rules) = fits_by File (file_fate k n c) (fits_count k n c) (file_reason s k n)
+fits s k (file_item n c rules) = fits_by File (file_fate s k n c) (fits_count s k n c) (file_reason s k n)
 fits s k (directory_item n) = fits_by Dir (walked (child_job k n)) refl (reason_of s k n true)
 fits s k (other_item n what) = fits_by (Other what) (skipped (Other what) (other_kind what)) refl (reason_of s k n false)
 

@@ -44,10 +44,10 @@ path_by_reason : (d n : List ℕ) (fate : Reason → Fate) (own : Fate) (b : Boo
 path_by_reason d n fate own b None out is = is
 path_by_reason d n fate own b (Some reason) out is = out reason
 
-path_of_file : (d n : List ℕ) (j : JobModel) (c : Result Count FaultWord)
-    → map path_of (found_by d (n, file_fate j n c)) ≡ path_in d n ∷ []
-path_of_file d n j (Ok count) = refl
-path_of_file d n j (Err word) = refl
+path_of_file : (filters : FiltersModel) (d n : List ℕ) (j : JobModel) (c : Result Count FaultWord)
+    → map path_of (found_by d (n, file_fate filters j n c)) ≡ path_in d n ∷ []
+path_of_file filters d n j (Ok count) = refl
+path_of_file filters d n j (Err word) = refl
 
 stays_so : (b : Bool) → cond b false true ≡ not b
 stays_so true = refl
@@ -60,8 +60,8 @@ always_so false = refl
 path_by_item : (filters : FiltersModel) (j : JobModel) (e : Item)
     → map path_of (found_by j.path (name_of e, fate_of filters j e)) ≡ map (path_in j.path) (picked name_of (stays filters j) (e ∷ []))
 path_by_item filters j (file_item n c r) =
-    path_by_reason j.path n (skipped File) (file_fate j n c) true (file_reason filters j n) (λ reason. refl)
-    (path_of_file j.path n j c)
+    path_by_reason j.path n (skipped File) (file_fate filters j n c) true (file_reason filters j n) (λ reason. refl)
+    (path_of_file filters j.path n j c)
     ∙ ap (λ b. map (path_in j.path) (cond b (n ∷ []) [])) (always_so (is_counted filters j n))
 path_by_item filters j (directory_item n) =
     path_by_reason j.path n (skipped Dir) (walked (child_job j n)) false (reason_of filters j n true) (λ reason. refl) refl

@@ -177,7 +177,7 @@ fine_or kind (Some reason) own fine = tt
 
 module _ (lists : List ℕ → Listings) (gives : List ℕ → Contents) (s : FiltersModel) where
   count_fine : (k : JobModel) (path name : List ℕ) (c : Result Count FaultWord) → MayCount (gives (path_in path name)) c
-      → IsFineFate (file_fate k name c)
+      → IsFineFate (file_fate s k name c)
   count_fine k path name (Ok count) may = tt
   count_fine k path name (Err w) may = of_count (gives (path_in path name)) w may
 
@@ -185,7 +185,7 @@ module _ (lists : List ℕ → Listings) (gives : List ℕ → Contents) (s : Fi
       → AllByRecursion (λ f. IsFineFate f.1) (fates_of s k items)
   fates_fine k path [] all = tt
   fates_fine k path (file_item n c rules ∷ items) all =
-      (fine_or File (file_reason s k n) (file_fate k n c) (count_fine k path n c all.0.0), fates_fine k path items all.1)
+      (fine_or File (file_reason s k n) (file_fate s k n c) (count_fine k path n c all.0.0), fates_fine k path items all.1)
   fates_fine k path (directory_item n ∷ items) all =
       (fine_or Dir (reason_of s k n true) (walked (child_job k n)) tt, fates_fine k path items all.1)
   fates_fine k path (other_item n what ∷ items) all =

@@ -130,12 +130,12 @@ has_or : (n : List ℕ) (kind : Kind) (o : Option Reason) (own : Fate) → HasNa
 has_or n kind None own has = has
 has_or n kind (Some reason) own has = tt
 
-file_has : (k : JobModel) (n : List ℕ) (c : Result Count FaultWord) → HasName n (file_fate k n c)
-file_has k n (Ok count) = refl
-file_has k n (Err word) = tt
+file_has : (s : FiltersModel) (k : JobModel) (n : List ℕ) (c : Result Count FaultWord) → HasName n (file_fate s k n c)
+file_has s k n (Ok count) = refl
+file_has s k n (Err word) = tt
 
 item_has : (s : FiltersModel) (k : JobModel) (e : Item) → HasName (name_of e) (fate_of s k e)
-item_has s k (file_item n c rules) = has_or n File (file_reason s k n) (file_fate k n c) (file_has k n c)
+item_has s k (file_item n c rules) = has_or n File (file_reason s k n) (file_fate s k n c) (file_has s k n c)
 item_has s k (directory_item n) = has_or n Dir (reason_of s k n true) (walked (child_job k n)) tt
 item_has s k (other_item n what) = has_or n (Other what) (reason_of s k n false) (skipped (Other what) (other_kind what)) tt
 

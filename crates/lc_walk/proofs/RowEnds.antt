@@ -145,7 +145,7 @@ module _ (ask : Asked) (lists : List ℕ → Listings) (gives : List ℕ → Con
 
     -- and its files were counted
     pub serves_listed : (found : CountedFiles) (t u : TallyModel) (row : ListedRowModel) (x : HasPosted p q (jobs_of o.children.items))
-        → IsCounted gives o.job (bytes_of o.files.items) o.absent.items found →
+        → IsCounted gives ask.filters o.job (bytes_of o.files.items) o.absent.items found →
         AddsFiles (map tallied found.files.items) t u (Ok tt) → IsRowOf row found (posts_held x.since) →
         WorksOn ask (MayAnswer lists gives) p (after_give q (Listed row)) (Some t) (Some u)
     serves_listed found t u row x f adds is first w =

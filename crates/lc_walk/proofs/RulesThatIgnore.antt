@@ -114,10 +114,10 @@ skipped_by None own fate what kind source line none e =
     let h : other_kind what ≡ by_rule source line = sym none ∙ ap (reason_or (other_kind what)) e in absurd (cc h)
 skipped_by (Some reason) own fate what kind source line none e = ap Some (ap (reason_or (other_kind what)) e)
 
-counting_leaves_none : (k : JobModel) (n : List ℕ) (c : Result Count FaultWord)
-    → reason_or (other_kind Special) (file_fate k n c) ≡ other_kind Special
-counting_leaves_none k n (Ok count) = refl
-counting_leaves_none k n (Err word) = refl
+counting_leaves_none : (s : FiltersModel) (k : JobModel) (n : List ℕ) (c : Result Count FaultWord)
+    → reason_or (other_kind Special) (file_fate s k n c) ≡ other_kind Special
+counting_leaves_none s k n (Ok count) = refl
+counting_leaves_none s k n (Err word) = refl
 
 -- an entry that is left out by a rule
 decided_item : (s : FiltersModel) (k : JobModel) (item : Item) (kind : Kind) (source : RuleSource) (line : ℕ) →
@@ -125,7 +125,7 @@ decided_item : (s : FiltersModel) (k : JobModel) (item : Item) (kind : Kind) (so
     Decides (rules_in k.ignore) (path_in k.path (name_of item)) (is_dir (entry_of item).kind) source line
 decided_item s k (file_item n c rules) kind source line e =
     decided_file s k n source line
-    (skipped_by (file_reason s k n) File (file_fate k n c) Special kind source line (counting_leaves_none k n c) e)
+    (skipped_by (file_reason s k n) File (file_fate s k n c) Special kind source line (counting_leaves_none s k n c) e)
 decided_item s k (directory_item n) kind source line e =
     decided_of s k n true source line (skipped_by (reason_of s k n true) Dir (walked (child_job k n)) Special kind source line refl e)
 decided_item s k (other_item n what) kind source line e =

@@ -11,7 +11,7 @@ abbrev pub one_line : Count
 one_line = record { lines = 1; blank = 1; bytes = 1; eol = Lf }
 
 abbrev pub example_top : JobModel
-example_top = record { path = []; ignore = no_ignore_files; attributes = record { tree = []; info = None } }
+example_top = record { path = []; ignore = no_ignore_files; attributes = record { lowest = None; tree = []; info = None } }
 
 -- a `.gitignore` of `*.o`, `.git/info/exclude` of `!k.o` and `b/`, and files and directories
 abbrev pub small_directory : Answers

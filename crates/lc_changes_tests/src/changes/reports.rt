@@ -4,6 +4,7 @@ ghost use Rattle.std.specs.Prelude.{◌≡◌, true, IfOk};
 
 use lc_census::{Count, Eol};
 use lc_changes::{ChangeOptions, ChangeSheet, ShownChanges};
+use lc_level::FileAttributes;
 use lc_rows::name_of;
 use lc_rules::TextState;
 use lc_sheet::{Columns, Format, Lines, Section, Value};
@@ -52,7 +53,7 @@ fn file_line(alloc: Global, file: &File) -> Result<FileLine, AllocError> {
     let (path, text, eol, [lines, blank, bytes]) = *file;
     Ok(FileLine {
         path: path.to_vec(alloc)?,
-        text,
+        attributes: FileAttributes::of_text(alloc, text)?,
         count: Count {
             lines,
             blank,
@@ -68,7 +69,7 @@ fn tally_of(alloc: Global, files: &[FileLine]) -> Result<Tally, AllocError> {
         if tally.totals().files >= 512 {
             return Err(AllocError);
         }
-        tally.add(extension(name_of(&file.path)), file.text, file.count)?;
+        tally.add(extension(name_of(&file.path)), file.text(), file.count)?;
     }
     Ok(tally)
 }

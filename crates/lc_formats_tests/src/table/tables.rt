@@ -3,7 +3,7 @@
 use crate::table::asking::{HEADER, TSV, showing_all};
 use lc_census::{Count, Eol};
 use lc_io::PrintFault;
-use lc_level::FaultWord;
+use lc_level::{FaultWord, FileAttributes};
 use lc_program::{report_text, table};
 use lc_rules::TextState;
 use lc_sheet::{Columns, TableOptions};
@@ -159,7 +159,7 @@ fn file_of(alloc: Global, parts: &File) -> Result<FileLine, AllocError> {
     let (path, text, eol, [lines, blank, bytes]) = *parts;
     Ok(FileLine {
         path: path.to_vec(alloc)?,
-        text,
+        attributes: FileAttributes::of_text(alloc, text)?,
         count: Count {
             lines,
             blank,

@@ -39,6 +39,7 @@ pub(crate) fn attributes_below(
     depth: u32,
     own: Option<Arc<AttrFile, Global>>,
 ) -> Result<Arc<AttrChain, Global>, AllocError>
+    ensures lowest { IfOk result (λ c. (arc_value c).lowest ≡ (arc_value chain.now).lowest) }
     ensures tree { IfOk result (λ c. (arc_value c).tree ≡ with_file_at (arc_value chain.now).tree depth (shared own)) }
     ensures info { IfOk result (λ c. (arc_value c).info ≡ first_of (shared info) (arc_value chain.now).info) }
 {

@@ -52,8 +52,8 @@ impl<T: Tree> LevelReader<'_, T> {
         requires { scratch.old.path.directory ≡ job.now.path }
         ensures same { scratch.new.path.directory ≡ scratch.old.path.directory }
         ensures more { OnOk result ((names : List (Vec ℕ Global)) → (absent : List FaultLineModel) →
-            CountsSome (T.gives self.now.tree.now) job.now names absent rest.old.items found.old →
-            CountsSome (T.gives self.now.tree.now) job.now (names ++ name ∷ []) absent rest.new.items found.new) }
+            CountsSome (T.gives self.now.tree.now) self.now.filters.now job.now names absent rest.old.items found.old →
+            CountsSome (T.gives self.now.tree.now) self.now.filters.now job.now (names ++ name ∷ []) absent rest.new.items found.new) }
     {
         if rest.is_empty() && !found.ends_large() {
             return self.count_named(job, name, scratch, found);
@@ -72,7 +72,8 @@ impl<T: Tree> LevelReader<'_, T> {
     ) -> Result<(CountedFiles, Vec<Vec<u8>>), AllocError>
         requires { scratch.old.path.directory ≡ job.now.path }
         ensures same { scratch.new.path.directory ≡ scratch.old.path.directory }
-        ensures some { IfOk result (λ r. CountsSome (T.gives self.now.tree.now) job.now names.items absent.items r.1.items r.0) }
+        ensures some { IfOk result (λ r. CountsSome (T.gives self.now.tree.now) self.now.filters.now job.now names.items absent.items
+            r.1.items r.0) }
     {
         let mut found = CountedFiles {
             files: Vec::new(self.alloc),
@@ -95,7 +96,7 @@ impl<T: Tree> LevelReader<'_, T> {
         scratch: &mut Scratch,
     ) -> Result<CountedFiles, AllocError>
         requires { scratch.old.path.directory ≡ job.now.path }
-        ensures { IfOk result (IsCounted (T.gives self.now.tree.now) job.now (bytes_of names.items) []) }
+        ensures { IfOk result (IsCounted (T.gives self.now.tree.now) self.now.filters.now job.now (bytes_of names.items) []) }
     {
         let absent = Vec::new(self.alloc);
         if helpers.count() == 0 {
@@ -114,7 +115,7 @@ impl<T: Tree> LevelReader<'_, T> {
         scratch: &mut Scratch,
     ) -> Result<CountedFiles, AllocError>
         requires { scratch.old.path.directory ≡ job.now.path }
-        ensures { IfOk result (IsCounted (T.gives self.now.tree.now) job.now (bytes_of names.items) absent.items) }
+        ensures { IfOk result (IsCounted (T.gives self.now.tree.now) self.now.filters.now job.now (bytes_of names.items) absent.items) }
     {
         let (mut found, rest) = self.count_until_large(job, names, absent, scratch)?;
         let helpers = take_helpers(threads.idle, rest.len());

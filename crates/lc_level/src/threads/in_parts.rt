@@ -69,7 +69,7 @@ impl CountedFiles {
 impl<T: Tree> LevelReader<'_, T> {
     // Counts the files of one part, with buffers of its own.
     fn count_part(&self, job: &Job, names: Vec<Vec<u8>>) -> Result<CountedFiles, AllocError>
-        ensures { IfOk result (IsCounted (T.gives self.now.tree.now) job.now (bytes_of names.items) []) }
+        ensures { IfOk result (IsCounted (T.gives self.now.tree.now) self.now.filters.now job.now (bytes_of names.items) []) }
     {
         let mut scratch = Scratch::new(self.alloc)?;
         let Ok(()) = scratch.path.enter(job.path()) else {
@@ -88,10 +88,11 @@ impl<T: Tree> LevelReader<'_, T> {
     ) -> Result<Vec<Result<CountedFiles, AllocError>>, AllocError>
         requires { vec_len runs ≤ _helpers.now + 1 }
         ensures all { IfOk result (λ parts. vec_len parts ≡ vec_len runs) }
-        ensures each { IfOk result (λ parts. HaveCounted (T.gives self.now.tree.now) job.now runs.items parts.items) }
+        ensures each { IfOk result (λ parts. HaveCounted (T.gives self.now.tree.now) self.now.filters.now job.now runs.items parts.items) }
     {
         let run = |names: Vec<Vec<u8>>| -> Result<CountedFiles, AllocError>
-            ensures { IfOk result (IsCounted (T.gives self.entry.now.tree.now) job.entry.now (bytes_of names.items) []) }
+            ensures { IfOk result (IsCounted (T.gives self.entry.now.tree.now) self.entry.now.filters.now job.entry.now
+                (bytes_of names.items) []) }
         { self.count_part(job, names) };
         thread::map_vec(rt, runs, &run)
     }
@@ -105,7 +106,7 @@ impl<T: Tree> LevelReader<'_, T> {
         names: Vec<Vec<u8>>,
         absent: Vec<FaultLine>,
     ) -> Result<CountedFiles, AllocError>
-        ensures { IfOk result (IsCounted (T.gives self.now.tree.now) job.now (bytes_of names.items) absent.items) }
+        ensures { IfOk result (IsCounted (T.gives self.now.tree.now) self.now.filters.now job.now (bytes_of names.items) absent.items) }
     {
         let runs = cut_names(self.alloc, names, helpers)?;
         let counted = self.count_runs(rt, job, runs, helpers)?;
@@ -126,7 +127,7 @@ impl<T: Tree> LevelReader<'_, T> {
         scratch: &mut Scratch,
     ) -> Result<CountedFiles, AllocError>
         requires { scratch.old.path.directory ≡ job.now.path }
-        ensures { IfOk result (IsCounted (T.gives self.now.tree.now) job.now (bytes_of names.items) absent.items) }
+        ensures { IfOk result (IsCounted (T.gives self.now.tree.now) self.now.filters.now job.now (bytes_of names.items) absent.items) }
     {
         let helpers = take_helpers(threads.idle, names.len());
         let found = if helpers.count() == 0 {

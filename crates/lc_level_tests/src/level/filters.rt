@@ -1,6 +1,8 @@
 //! Which entries of a directory are skipped with the options `--exclude`, `--exclude-from`, `--no-ignore`, `--without` and `--include`.
 
 use crate::level::work::{Case, Part, check, check_parts};
+use lc_level::FileAttributes;
+use lc_rules::TextState;
 use std::test::Fail;
 
 /// A directory whose ignore file and the options of the tests decide differently for some files.
@@ -121,6 +123,56 @@ const BY_VALUE: &[Part] = &[
 #[test]
 fn attributes_skip_by_their_value(rt: HostRuntime) -> Result<(), Fail> {
     check_parts(&rt, rt.alloc(), VALUED, "", BY_VALUE)?;
+    Ok(())
+}
+
+/// A repository with attribute files. Some of its lines decide `team`.
+const TEAMS: &str = "
+    .git/{ info/{ attributes=z_team=info; } }
+    .gitattributes=[attr]mine_team=top;a_team=tree;b_-team;c_mine;d_!team;x_team;
+    a b c d e f x z";
+
+const BY_TEAM: &[Part] = &[
+    (
+        "every file of the tree overrides it, and its macros",
+        "--attributes-from=[attr]mine_team=from;[attr]ours_team=ours;*_team=any;e_mine;f_ours;z_ours --asks=team",
+        ".gitattributes =any a =tree b - c =top d ? e =top f =ours x + z =info, left git .git/",
+    ),
+    (
+        "attributes by which entries are skipped, and the column text",
+        "--attributes-from=a_text=auto;e_text;f_gone --without=gone",
+        ".gitattributes a auto b c d e set x z, left git .git/, left attribute gone f",
+    ),
+    (
+        "each attribute has its own state",
+        "--attributes-from=[b-e]_-other=1;f_other=2 --asks=other --asks=team",
+        ".gitattributes ? ? a ? =tree b - - c - =top d - ? e - ? f =2 ? x ? + z ? =info, left git .git/",
+    ),
+];
+
+/// More files with different states than are kept to be shared, and then one whose states are those of the first.
+const DIFFERENT: &str = "
+    .gitattributes=a_t=a;b_t=b;c_t=c;d_t=d;e_t=e;f_t=f;g_t=g;h_t=h;i_t=i;j_t=j;k_t=k;l_t=l;m_t=m;n_t=n;o_t=o;p_t=p;q_t=q;z_t=a;
+    a b c d e f g h i j k l m n o p q z";
+
+const EACH: &[Part] = &[(
+    "a state for each file",
+    "--asks=t",
+    ".gitattributes ?
+     a =a b =b c =c d =d e =e f =f g =g h =h i =i j =j k =k l =l m =m n =n o =o p =p q =q z =a",
+)];
+
+#[test]
+fn attributes_of_a_file_for_the_whole_tree(rt: HostRuntime) -> Result<(), Fail> {
+    check_parts(&rt, rt.alloc(), TEAMS, "", BY_TEAM)?;
+    check_parts(&rt, rt.alloc(), DIFFERENT, "", EACH)?;
+    Ok(())
+}
+
+#[test]
+fn attributes_of_text_alone(rt: HostRuntime) -> Result<(), Fail> {
+    let attributes = FileAttributes::of_text(rt.alloc(), TextState::Auto)?;
+    assert!(rt; attributes.text == TextState::Auto && attributes.asked.is_empty());
     Ok(())
 }
 

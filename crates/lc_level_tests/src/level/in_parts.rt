@@ -30,7 +30,7 @@ fn flat(alloc: Global) -> Result<Node, AllocError> {
 
 fn is_same(found: &CountedFiles, wanted: &CountedFiles) -> bool {
     let files = found.files.iter().zip(&wanted.files).all(|(file, other)| {
-        file.path == other.path && file.text == other.text && file.count == other.count
+        file.path == other.path && file.text() == other.text() && file.count == other.count
     });
     let faults = found.faults.iter().zip(&wanted.faults).all(|(fault, other)| {
         fault.path == other.path && fault.word == other.word

@@ -1,9 +1,10 @@
 //! Opening and counting one directory of a tree in memory, with the results as text.
 
 use lc_level::{
-    ChildDirectory, CountedFiles, FaultWord, Filters, Job, LevelReader, OpenFault, Opened,
-    ReaderOptions, Scratch, SkippedLine,
+    AttributeState, ChildDirectory, CountedFiles, FaultWord, Filters, Job, LevelReader, OpenFault,
+    Opened, ReaderOptions, Scratch, SkippedLine,
 };
+use lc_rules::State;
 use lc_tests::{Asked, has_words, push_kind, push_name, push_reason, tree};
 use lc_tree::{MemTree, Node};
 use std::alloc::{AllocError, Global};
@@ -94,12 +95,27 @@ fn work(
     }
 }
 
+fn push_state(text: &mut String, state: &AttributeState) -> Result<(), AllocError> {
+    match state.as_state() {
+        State::Set => text.push_str(" +"),
+        State::Unset => text.push_str(" -"),
+        State::Value(value) => {
+            text.push_str(" =")?;
+            push_name(text, value)
+        }
+        State::Unspecified => text.push_str(" ?"),
+    }
+}
+
 fn push_counted(text: &mut String, counted: &CountedFiles) -> Result<(), AllocError> {
     for file in &counted.files {
         push_name(text, &file.path)?;
-        let word = file.text.word().unwrap_or("-");
+        let word = file.text().word().unwrap_or("-");
         if word != "-" {
             write!(text, " {word}")?;
+        }
+        for state in &file.attributes.asked {
+            push_state(text, state)?;
         }
         text.push_str("\n")?;
     }

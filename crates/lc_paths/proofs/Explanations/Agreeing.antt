@@ -28,7 +28,7 @@ other cite what (Some reason) rule = refl
 pub agree : EntryLaw
 agree f stack j (file_item name (Ok count) rules) =
     let rule = last_match (rules_in j.ignore) (path_in j.path name) false in
-    left_or (cited f stack) File (file_reason f j name) (file_fate j name (Ok count)) rule (taken (cited f stack) rule)
+    left_or (cited f stack) File (file_reason f j name) (file_fate f j name (Ok count)) rule (taken (cited f stack) rule)
 agree f stack j (file_item name (Err word) rules) =
     let rule = last_match (rules_in j.ignore) (path_in j.path name) false in
     left_or (cited f stack) File (file_reason f j name) (failed word) rule (taken (cited f stack) rule)

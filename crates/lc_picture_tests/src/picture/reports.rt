@@ -1,6 +1,7 @@
 //! Reports, made from short lists of rows and files, and the fixed parts of their pages.
 
 use lc_census::{Count, Eol};
+use lc_level::FileAttributes;
 use lc_rules::TextState;
 use lc_sheet::Columns;
 use lc_walk::{ClassSums, FileLine, Report, ReportLists, Sums, TallyRow};
@@ -62,7 +63,7 @@ fn file_of(alloc: Global, file: &File) -> Result<FileLine, AllocError> {
     let (path, [lines, blank, bytes]) = *file;
     Ok(FileLine {
         path: path.to_vec(alloc)?,
-        text: TextState::Unspecified,
+        attributes: FileAttributes::of_text(alloc, TextState::Unspecified)?,
         count: Count {
             lines,
             blank,

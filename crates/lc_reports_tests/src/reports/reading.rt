@@ -1,7 +1,7 @@
 //! Making reports from lines of text.
 
 use lc_census::Count;
-use lc_level::{FaultWord, Reason};
+use lc_level::{FaultWord, FileAttributes, Reason};
 use lc_rules::RuleSource;
 use lc_sheet::Columns;
 use lc_tests::{eol_of_word, text_of_word};
@@ -75,7 +75,12 @@ fn file(alloc: Global, words: &mut SplitAsciiWhitespace<'_>) -> Result<FileLine,
         eol,
     };
     let path = path_of(alloc, next(words))?;
-    Ok(FileLine { path, text, count })
+    let attributes = FileAttributes::of_text(alloc, text)?;
+    Ok(FileLine {
+        path,
+        attributes,
+        count,
+    })
 }
 
 fn fault(alloc: Global, words: &mut SplitAsciiWhitespace<'_>) -> Result<FaultLine, AllocError> {

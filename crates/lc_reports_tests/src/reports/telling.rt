@@ -71,7 +71,7 @@ fn push_numbers(text: &mut String, report: &Report) -> Result<(), AllocError> {
 
 fn push_file(text: &mut String, file: &FileLine) -> Result<(), AllocError> {
     let count = &file.count;
-    let (state, eol) = (file.text.word().unwrap_or("-"), count.eol.as_str());
+    let (state, eol) = (file.text().word().unwrap_or("-"), count.eol.as_str());
     write!(
         text,
         "file {state} {eol} {} {} {} ",

@@ -33,7 +33,7 @@ fn key_value(file: &FileLine, depth: Option<u32>, key: Key) -> Value<'_>
     match key {
         Key::Dir => directory_in(directory_to(depth, &file.path)),
         Key::Ext => extension_value(extension(name_of(&file.path))),
-        Key::Text => text_value(file.text),
+        Key::Text => text_value(file.text()),
         Key::Eol => Value::Word(file.count.eol.as_str()),
     }
 }

@@ -24,7 +24,7 @@ fn report(alloc: Global) -> Result<Report, AllocError> {
         if tally.totals().files >= 512 {
             return Err(AllocError);
         }
-        tally.add(extension(name_of(&file.path)), file.text, file.count)?;
+        tally.add(extension(name_of(&file.path)), file.text(), file.count)?;
     }
     let lists = ReportLists {
         files: true,

@@ -1,6 +1,7 @@
 //! Files and rows in the short form in which test cases write them.
 
 use lc_census::{Count, Eol};
+use lc_level::FileAttributes;
 use lc_rows::ShownRow;
 use lc_rules::TextState;
 use lc_sheet::Columns;
@@ -33,7 +34,7 @@ fn file_line(alloc: Global, file: &File) -> Result<FileLine, AllocError> {
     let (path, text, eol, [lines, blank, bytes]) = *file;
     Ok(FileLine {
         path: path.to_vec(alloc)?,
-        text,
+        attributes: FileAttributes::of_text(alloc, text)?,
         count: Count {
             lines,
             blank,

@@ -14,10 +14,11 @@ const DIR: bool = true;
 /// The lines of a top-level attribute file, the path of a file, the name of an attribute, and its state for that path.
 type Case = (&'static [u8], &'static [u8], &'static [u8], State<'static>);
 
-/// A part of an attribute chain. A chain is made from its parts in order: files of directories at a depth, directories without a file, and
-/// the file of `.git/info`.
+/// A part of an attribute chain. A chain is made from its parts in order: perhaps a lowest file, files of directories at a depth,
+/// directories without a file, and the file of `.git/info`.
 #[derive(Clone, Copy)]
 enum Part {
+    Lowest(&'static [u8]),
     File(u32, &'static [u8]),
     NoFile(u32),
     Info(&'static [u8]),
@@ -45,6 +46,7 @@ fn file(alloc: Global, bytes: &[u8], top: bool) -> Result<Arc<AttrFile, Global>,
 
 fn with_part(chain: &AttrChain, alloc: Global, part: &Part) -> Result<AttrChain, AllocError> {
     match part {
+        Part::Lowest(lines) => Ok(AttrChain::top_with(Some(file(alloc, lines, true)?))),
         Part::File(depth, lines) => {
             chain.below(alloc, *depth, Some(file(alloc, lines, *depth == 0)?))
         }
@@ -55,7 +57,7 @@ fn with_part(chain: &AttrChain, alloc: Global, part: &Part) -> Result<AttrChain,
 }
 
 fn chain_of(alloc: Global, parts: &[Part]) -> Result<AttrChain, AllocError> {
-    let mut chain = AttrChain::top();
+    let mut chain = AttrChain::top_with(None);
     for part in parts {
         chain = with_part(&chain, alloc, part)?;
     }
@@ -232,7 +234,8 @@ fn check_after(
     for (lines, path, name, state) in cases {
         let mut bytes = before.to_vec(alloc)?;
         bytes.extend_from_slice(lines)?;
-        let chain = AttrChain::top().below(alloc, 0, Some(file(alloc, &bytes, true)?))?;
+        let top = AttrChain::top_with(None);
+        let chain = top.below(alloc, 0, Some(file(alloc, &bytes, true)?))?;
         let holds = is_same(chain.state(alloc, path, FILE, name)?, *state);
         assert!(rt; holds, "{lines:?} at {path:?}: {name:?}");
     }
@@ -293,6 +296,15 @@ const INFO_MACROS: &[Part] = &[
     Part::File(1, b"*.d src"),
 ];
 
+/// A chain with a lowest file, whose lines and macros the other files override.
+const LOWEST: &[Part] = &[
+    Part::Lowest(
+        b"[attr]m text\n[attr]n -text\n[attr]o text=auto\n*.l n\n*.c text\n/t/*.d text=auto",
+    ),
+    Part::File(0, b"[attr]m -text\n*.m m\n*.n n\n*.o o\n*.c !text"),
+    Part::Info(b"[attr]o -text"),
+];
+
 const TEXTS: &[TextCase] = &[
     (TEXT_LINES, b"b.t", TextState::Auto),
     (TEXT_LINES, b"b.u", TextState::Other),
@@ -312,6 +324,13 @@ const TEXTS: &[TextCase] = &[
     (NO_INFO_MACROS, b"a.c", TextState::Set),
     (INFO_MACROS, b"a.c", TextState::Unset),
     (INFO_MACROS, b"t/a.d", TextState::Set),
+    (LOWEST, b"a.l", TextState::Unset),
+    (LOWEST, b"t/a.c", TextState::Unspecified),
+    (LOWEST, b"t/a.d", TextState::Auto),
+    (LOWEST, b"a.d", TextState::Unspecified),
+    (LOWEST, b"a.m", TextState::Unset),
+    (LOWEST, b"a.n", TextState::Unset),
+    (LOWEST, b"a.o", TextState::Unset),
 ];
 
 #[test]

@@ -14,7 +14,7 @@ fn add_file(tally: &mut Tally, file: &FileLine) -> Result<(), AllocError>
     if tally.totals().files >= MAX_FILES {
         return Err(AllocError);
     }
-    tally.add(extension(&file.path), file.text, file.count)
+    tally.add(extension(&file.path), file.text(), file.count)
 }
 
 /// Adds files to the tally. After an error, the tally may lack some of the files.

@@ -55,7 +55,7 @@ fn walk_failing<R: Threads + Wait + Sync + Abort>(
 }
 
 fn is_same_file(file: &FileLine, other: &FileLine) -> bool {
-    file.path == other.path && file.text == other.text && file.count == other.count
+    file.path == other.path && file.text() == other.text() && file.count == other.count
 }
 
 /// Returns whether the report lists and totals exactly the files of the whole walk whose paths do not begin with `lost`.

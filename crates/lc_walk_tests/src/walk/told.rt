@@ -21,7 +21,7 @@ pub(super) fn push_row(text: &mut String, row: &TallyRow) -> Result<(), AllocErr
 
 fn push_file(text: &mut String, file: &FileLine) -> Result<(), AllocError> {
     let count = &file.count;
-    let (state, eol) = (file.text.word().unwrap_or("-"), count.eol.as_str());
+    let (state, eol) = (file.text().word().unwrap_or("-"), count.eol.as_str());
     write!(
         text,
         "file {state} {eol} {} {} {} ",

@@ -10,13 +10,13 @@ returns-in_err-filters g c =
     inr (
       c.in_err-filters.field-0.0,
       inl (inl c.in_err-filters.ensures, refl),
-      given_up c.from_residual.result c.in_err-filters.field-0.0 c.from_residual.ensures.1,
+      given_up c.from_residual-in_err-filters.result c.in_err-filters.field-0.0 c.from_residual-in_err-filters.ensures.1,
       refl,
     )
 
 pub returns-in_err-named : goal.returns-in_err-named
 returns-in_err-named g c =
-    inr (Memory, inl (inr refl, refl), given_up c.from_residual-in_err-named.result Memory c.from_residual-in_err-named.ensures.1, refl)
+    inr (Memory, inl (inr refl, refl), given_up c.from_residual.result Memory c.from_residual.ensures.1, refl)
 
 pub returns-in_err-list : goal.returns-in_err-list
 returns-in_err-list g c =
@@ -71,8 +71,8 @@ returns g c =
       c.options_of-options.result,
       c.list_of.new.input,
       (
-        c.in_ok-filters.ensures.0,
-        c.in_ok-filters.ensures.1,
+        c.in_ok-filters.filters,
+        c.in_ok-filters.ensures,
         (
           c.in_ok-wanted.wanted,
           inl (
@@ -80,9 +80,9 @@ returns g c =
             c.in_ok-list.ensures,
             rw (c.as_slice-only.ensures.value, c.path_end-end.ensures, c.as_slice-listed.ensures.value) at c.in_ok-wanted.ensures,
           ),
-          asked_by_all c.args.asked.now.walk _ (compared_lists c.args.asked.now) c.in_ok-filters.ensures.0 _ _ _ _ _
+          asked_by_all c.args.asked.now.walk _ (compared_lists c.args.asked.now) c.in_ok-filters.filters _ _ _ _
               c.compared_lists.ensures c.options_of-options.ensures c.in_ok-filters-2.ensures
-              c.in_ok-filters.ensures.2 (ap (map (λ path. path.now)) c.as_slice.ensures.value),
+              (ap (map (λ path. path.now)) c.as_slice.ensures.value),
         ),
       ),
       (

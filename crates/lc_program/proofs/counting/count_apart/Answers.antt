@@ -1,7 +1,8 @@
-use Rattle.std.proofs.Common.{◌∙◌, ℕ, List, ap, inl, inr, map, refl, subst}
+use Rattle.std.proofs.Common.{◌≡◌, ◌∙◌, ◌||◌, ℕ, Bool, true, false, List, ap, inl, inr, map, refl, subst}
 use Rattle.lc_level.specs.NamedAttributes.{attributes_of}
 use Rattle.lc_program.specs.{Counts.lists_of, Replies.IsReplyWith}
 use Rattle.lc_program.specs.declared.{answered.Answered.TheVariants.Counted, cause.Cause.TheVariants.Memory}
+use Rattle.lc_walk.specs.declared.options.ReportLists.{ReportLists}
 use Rattle.lc_program.proofs.{FiltersAsked.{asked_by_all, memory_wanted}, Loading.given_up}
 use Rattle.lc_program.proofs.counting.count_apart.Goals as goal
 
@@ -10,13 +11,13 @@ returns-in_err-filters g c =
     inr (
       c.in_err-filters.field-0.0,
       inl (inl c.in_err-filters.ensures, refl),
-      given_up c.from_residual.result c.in_err-filters.field-0.0 c.from_residual.ensures.1,
+      given_up c.from_residual-in_err-filters.result c.in_err-filters.field-0.0 c.from_residual-in_err-filters.ensures.1,
       refl,
     )
 
 pub returns-in_err-named : goal.returns-in_err-named
 returns-in_err-named g c =
-    inr (Memory, inl (inr refl, refl), given_up c.from_residual-in_err-named.result Memory c.from_residual-in_err-named.ensures.1, refl)
+    inr (Memory, inl (inr refl, refl), given_up c.from_residual.result Memory c.from_residual.ensures.1, refl)
 
 pub returns-in_err-list : goal.returns-in_err-list
 returns-in_err-list g c =
@@ -51,13 +52,23 @@ returns-in_err-filters-2 g c =
       refl,
     )
 
+-- rows by directory need the list of files
+listed : (a b c d : Bool) → b ≡ true → (a || b || c || d) ≡ true
+listed true b c d is = refl
+listed false b c d is = ap (λ x. x || c || d) is
+
+pub print_found-counted-requires-clause-files : goal.print_found-counted-requires-clause-files
+print_found-counted-requires-clause-files g c κs within by_directory =
+    ap (λ (lists : ReportLists). lists.files) (c.options_of-options.ensures.lists ∙ c.lists_of.ensures)
+    ∙ listed c.args.asked.now.table.files _ _ _ by_directory
+
 pub returns : goal.returns
 returns g c =
     inl (
       c.options_of-options.result,
       (
-        c.in_ok-filters.ensures.0,
-        c.in_ok-filters.ensures.1,
+        c.in_ok-filters.filters,
+        c.in_ok-filters.ensures,
         (
           c.in_ok-wanted.wanted,
           inl (
@@ -65,9 +76,8 @@ returns g c =
             c.in_ok-list.ensures,
             rw (c.as_slice-only.ensures.value, c.path_end-end.ensures, c.as_slice-listed.ensures.value) at c.in_ok-wanted.ensures,
           ),
-          asked_by_all c.args.asked.now.walk _ (lists_of c.args.asked.now) c.in_ok-filters.ensures.0 _ _ _ _ _ c.lists_of.ensures
-              c.options_of-options.ensures c.in_ok-filters-2.ensures
-              c.in_ok-filters.ensures.2 (ap (map (λ path. path.now)) c.as_slice.ensures.value),
+          asked_by_all c.args.asked.now.walk _ (lists_of c.args.asked.now) c.in_ok-filters.filters _ _ _ _ c.lists_of.ensures
+              c.options_of-options.ensures c.in_ok-filters-2.ensures (ap (map (λ path. path.now)) c.as_slice.ensures.value),
         ),
       ),
       (

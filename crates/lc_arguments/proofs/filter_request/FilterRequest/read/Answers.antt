@@ -18,6 +18,7 @@ returns c =
     let f = found_of c.args.matches.now in
     record {
       exclude_from = text_of (rows_of f) f (codes "exclude-from") c.get_str.result refl c.get_str.ensures;
+      attributes_from = text_of (rows_of f) f (codes "attributes-from") c.get_str-2.result refl c.get_str-2.ensures;
       archive = flag_of (rows_of f) f (codes "archive") c.get_flag.result refl c.get_flag.ensures.value c.get_flag.ensures.other;
       without = c.in-Ok.ensures;
       exclude = c.in-Ok-values_in.ensures;

@@ -7,4 +7,4 @@ invariant-loop-name g l =
     (goal.iterator-loop-name g).can_next l.name-iterator
     × (goal.iterator-loop-name g).is_finite l.name-iterator
     × (l.scratch.path.directory ≡ l.job.path)
-    × IsCounted (g.T.Tree.gives l.self.tree.now) l.job (bytes_of l.yielded) l.fn.absent.items l.found
+    × IsCounted (g.T.Tree.gives l.self.tree.now) l.self.filters.now l.job (bytes_of l.yielded) l.fn.absent.items l.found

@@ -37,8 +37,8 @@ returns-in-Ok-new-clause-serves g c =
     let ask = asked_by c.args.self.now.options.now in
     let lists = g.T.Tree.lists c.args.self.now.reader.tree.now in
     let gives = g.T.Tree.gives c.args.self.now.reader.tree.now in
-    let counted : IsCounted gives c.args.opened.job (bytes_of c.args.opened.files.items) c.args.opened.absent.items
-    c.in-Ok-count_divided.found = c.in-Ok-count_divided.ensures in
+    let counted : IsCounted gives ask.filters c.args.opened.job (bytes_of c.args.opened.files.items)
+    c.args.opened.absent.items c.in-Ok-count_divided.found = rw c.args.self.now.selects at c.in-Ok-count_divided.ensures in
     let added : AddsFiles (map tallied c.in-Ok-count_divided.found.files.items) c.args.tally.now c.add_files.new.tally (Ok tt) = rw
     c.deref.ensures.value at c.in-Ok-add_files.ensures in
     let row : c.in-Ok-new.row ≡ _ = c.in-Ok-new.ensures.row in

@@ -1,0 +1,178 @@
+//! The states of attributes that a counted file has.
+
+ghost use Rattle.std.specs.Prelude.{◌≡◌, [], map, true, IfOk, IfSome};
+ghost use Rattle.std.specs.Arc.{arc_value};
+ghost use Rattle.lc_level.specs.FileAttributes.{attributes_with, owned_state};
+ghost use Rattle.lc_rules.specs.Models.{state_model};
+
+use lc_rules::{State, TextState};
+use std::alloc::{AllocError, Global};
+use std::marker::Model;
+use std::sync::Arc;
+
+/// The state of an attribute for a file, with a copy of its value: gitattributes(5), DESCRIPTION.
+#[derive(Debug, Drop)]
+pub enum AttributeState {
+    Set,
+    Unset,
+    /// The bytes after the equals sign, perhaps none.
+    Value(Vec<u8>),
+    Unspecified,
+}
+
+impl AttributeState {
+    fn of(alloc: Global, state: State<'_>) -> Result<AttributeState, AllocError>
+        ensures { IfOk result (λ owned. owned_state owned ≡ state_model state.entry) }
+    {
+        match state {
+            State::Set => Ok(AttributeState::Set),
+            State::Unset => Ok(AttributeState::Unset),
+            State::Value(value) => Ok(AttributeState::Value(value.to_vec(alloc)?)),
+            State::Unspecified => Ok(AttributeState::Unspecified),
+        }
+    }
+
+    /// Returns the state, with its value borrowed.
+    pub fn as_state(&self) -> State<'_>
+        ensures { state_model result ≡ owned_state self.now }
+    {
+        match self {
+            AttributeState::Set => State::Set,
+            AttributeState::Unset => State::Unset,
+            AttributeState::Value(value) => State::Value(value.as_slice()),
+            AttributeState::Unspecified => State::Unspecified,
+        }
+    }
+
+    fn is(&self, state: State<'_>) -> bool
+        ensures { result ≡ true → owned_state self.now ≡ state_model state.entry }
+    {
+        match (self, state) {
+            (AttributeState::Set, State::Set) => true,
+            (AttributeState::Unset, State::Unset) => true,
+            (AttributeState::Value(value), State::Value(other)) => value.as_slice() == other,
+            (AttributeState::Unspecified, State::Unspecified) => true,
+            _ => false,
+        }
+    }
+}
+
+/// The states of attributes for a file. Files with the same states share them.
+#[derive(Debug, Drop)]
+pub struct FileAttributes {
+    /// The state of the attribute `text`.
+    pub text: TextState,
+    /// The states of the attributes that were asked for, in the order of their names.
+    pub asked: Vec<AttributeState>,
+}
+
+impl Model for FileAttributes {
+    ghost use Rattle.std.specs.Prelude.{map};
+    ghost use Rattle.lc_level.specs.FileAttributes.{FileAttributesModel, owned_state};
+
+    ghost Value = { FileAttributesModel };
+
+    ghost view = { λ a. record { text = a.text; asked = map owned_state a.asked.items } };
+}
+
+impl FileAttributes {
+    /// Makes the attributes of a file for which no attribute was asked for.
+    pub fn of_text(
+        alloc: Global,
+        text: TextState,
+    ) -> Result<Arc<FileAttributes, Global>, AllocError>
+        ensures { IfOk result (λ a. arc_value a ≡ attributes_with text []) }
+    {
+        let asked = Vec::new(alloc);
+        Ok(Arc::new(alloc, FileAttributes { text, asked })?)
+    }
+
+    fn of(alloc: Global, text: TextState, asked: &[State<'_>]) -> Result<FileAttributes, AllocError>
+        ensures { IfOk result (λ a. a ≡ attributes_with text (map state_model asked.now)) }
+    {
+        let mut states = Vec::new(alloc);
+        for state in asked {
+            states.push(AttributeState::of(alloc, *state)?)?;
+        }
+        Ok(FileAttributes {
+            text,
+            asked: states,
+        })
+    }
+
+    fn are(&self, text: TextState, asked: &[State<'_>]) -> bool
+        ensures { result ≡ true → self.now ≡ attributes_with text (map state_model asked.now) }
+    {
+        if self.text != text {
+            return false;
+        }
+        are_same(&self.asked, asked)
+    }
+}
+
+/// Returns whether these are the same states. The result may be false only if they are not.
+fn are_same(owned: &[AttributeState], states: &[State<'_>]) -> bool
+    ensures { result ≡ true → map owned_state owned.now ≡ map state_model states.now }
+{
+    let Some((state, rest)) = owned.split_first() else {
+        return states.is_empty();
+    };
+    let Some((other, others)) = states.split_first() else {
+        return false;
+    };
+    state.is(*other) && are_same(rest, others)
+}
+
+/// The greatest number of different attributes that are kept to be shared.
+const MOST_KEPT: usize = 16;
+
+/// The different attributes of the files that were counted or read last. A file whose states are those of an earlier file shares its
+/// attributes, so it takes no memory for them.
+#[derive(Drop)]
+pub(crate) struct SharedAttributes {
+    kept: Vec<Arc<FileAttributes, Global>>,
+}
+
+impl SharedAttributes {
+    pub(crate) fn new(alloc: Global) -> SharedAttributes {
+        SharedAttributes {
+            kept: Vec::new(alloc),
+        }
+    }
+
+    /// Returns attributes with these states, shared with an earlier file if one has the same states.
+    pub(crate) fn share(
+        &mut self,
+        alloc: Global,
+        text: TextState,
+        asked: &[State<'_>],
+    ) -> Result<Arc<FileAttributes, Global>, AllocError>
+        ensures { IfOk result (λ shared. arc_value shared ≡ attributes_with text (map state_model asked.now)) }
+    {
+        if let Some(known) = self.find(text, asked) {
+            return Ok(Arc::try_clone(known)?);
+        }
+        let made = Arc::new(alloc, FileAttributes::of(alloc, text, asked)?)?;
+        self.keep(Arc::try_clone(&made)?)?;
+        Ok(made)
+    }
+
+    fn find(&self, text: TextState, asked: &[State<'_>]) -> Option<&Arc<FileAttributes, Global>>
+        ensures { IfSome result (λ found. arc_value found.now ≡ attributes_with text (map state_model asked.now)) }
+    {
+        for known in &self.kept {
+            if known.are(text, asked) {
+                return Some(known);
+            }
+        }
+        None
+    }
+
+    fn keep(&mut self, attributes: Arc<FileAttributes, Global>) -> Result<(), AllocError> {
+        if self.kept.len() >= MOST_KEPT {
+            self.kept.clear();
+        }
+        self.kept.push(attributes)?;
+        Ok(())
+    }
+}
