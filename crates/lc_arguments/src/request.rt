@@ -143,7 +143,7 @@ fn explained_others<W: AsStr>(alloc: Global, error: &Error, words: &[W]) -> Pars
     ensures { Explains error.now result }
 {
     let first = words.first().map_or("", |word| word.as_str());
-    match suggestions::command(alloc, first) {
+    match suggestions::command(alloc, first, words) {
         Ok(advice) => explained(alloc, error, help::LC.usage, &advice),
         Err(AllocError) => ParseExit::Memory,
     }

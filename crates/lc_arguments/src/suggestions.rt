@@ -22,6 +22,9 @@ const SUM: &str = "lc count --format json . | lc sum";
 /// A comparison of the current directory with itself.
 const DIFF: &str = "lc diff . .";
 
+/// How to show the version.
+const VERSION: &str = "lc --version";
+
 /// The commands, each with an example.
 const COMMANDS: &[(&str, &str)] = &[
     ("count", COUNT),
@@ -60,14 +63,14 @@ fn with_tip(alloc: Global, tip: String, command: &str) -> Result<Advice, AllocEr
 /// Finds the command that an unknown word may have meant. The function knows words that other tools use.
 fn word_meant(word: &str) -> Option<&'static str> {
     match word {
-        "-v" | "-V" | "--version" | "version" => Some("lc --version"),
+        "-v" | "-V" | "--version" | "version" => Some(VERSION),
         "--json" | "json" => Some("lc count --format json ."),
         "--csv" | "csv" => Some("lc count --format csv ."),
         "--markdown" | "--md" | "markdown" => Some("lc count --format markdown ."),
         "--html" | "html" => Some("lc count --format html ."),
         "--table" | "table" => Some("lc count --format table ."),
         "--tsv" | "tsv" => Some("lc count --format tsv ."),
-        "--all" | "--no-gitignore" | "--no-vcs-ignore" => Some("lc count --no-ignore ."),
+        "-a" | "--all" | "--no-gitignore" | "--no-vcs-ignore" => Some("lc count --no-ignore ."),
         "--xdev" | "--same-file-system" => Some("lc count --one-file-system ."),
         "--dir" | "--dirs" | "--by-dir" => Some("lc count --by dir ."),
         "--max-depth" => Some("lc count --by dir --depth 2 ."),
@@ -110,13 +113,18 @@ fn is_extension(word: &str) -> bool {
     !word.is_empty() && word.bytes().all(|byte| byte.is_ascii_alphanumeric())
 }
 
-/// Finds the count that an option of another tool and the argument after it may have meant, such as `-e py` or `-f json`.
+/// Finds the count that an option of another tool and the argument after it may have meant, such as `-e py`, `--ext .c` or `-f json`.
 fn pair_meant<W: AsStr>(alloc: Global, words: &[W]) -> Result<Option<String>, AllocError> {
     for pair in words.windows(2) {
         if let [option, value] = pair {
             let value = value.as_str();
             if is_extension_option(option.as_str()) && is_extension(value) {
                 return Ok(Some(format!(in alloc; "lc count --include '*.{value}' .")?));
+            }
+            if is_extension_option(option.as_str())
+                && is_extension(value.strip_prefix(".").unwrap_or(""))
+            {
+                return Ok(Some(format!(in alloc; "lc count --where ext={value} .")?));
             }
             if is_format_option(option.as_str()) && is_format(value) {
                 return Ok(Some(format!(in alloc; "lc count --format {value} .")?));
@@ -162,6 +170,7 @@ fn known_options(
             known.push((row.name, meant))?;
         }
     }
+    known.push(("version", VERSION))?;
     Ok(known)
 }
 
@@ -169,11 +178,10 @@ fn known_options(
 /// Otherwise the advice is `other`, an example of the command.
 fn option_or(
     alloc: Global,
-    problem: &str,
+    unknown: &str,
     command: Subcommand,
     other: &'static str,
 ) -> Result<Advice, AllocError> {
-    let unknown = quoted(problem);
     if !unknown.starts_with("--") {
         return example(alloc, other);
     }
@@ -191,6 +199,9 @@ fn needless(option: &str) -> Option<&'static str> {
         "--hidden" => Some("names that begin with a dot are counted without an option"),
         "--recursive" | "-r" | "-R" => Some(
             "all directories under DIR are counted without an option",
+        ),
+        "--color" | "--no-color" | "--colour" | "--no-colour" => Some(
+            "nothing is printed in color",
         ),
         _ => None,
     }
@@ -212,7 +223,7 @@ fn count<W: AsStr>(alloc: Global, words: &[W], problem: &str) -> Result<Advice, 
     if let Some(tip) = needless(quoted(problem)) {
         return with_tip(alloc, String::from_str(alloc, tip)?, COUNT);
     }
-    option_or(alloc, problem, Subcommand::Count, COUNT)
+    option_or(alloc, quoted(problem), Subcommand::Count, COUNT)
 }
 
 /// Makes the advice for a first argument that is neither a command nor close to one.
@@ -228,13 +239,37 @@ fn count_of(alloc: Global, word: &str) -> Result<Advice, AllocError> {
     })
 }
 
-/// Makes the advice for a first argument that is no command: a command that the user may have meant.
-pub(crate) fn command(alloc: Global, first: &str) -> Result<Advice, AllocError> {
+/// Finds the explanation that two arguments may have meant, such as `why a.log`.
+fn explanation_meant<W: AsStr>(alloc: Global, words: &[W]) -> Result<Option<String>, AllocError> {
+    let [word, path] = words else {
+        return Ok(None);
+    };
+    let asks = matches!(word.as_str(), "why" | "which" | "check-ignore");
+    if !asks || !is_shown_as_typed(alloc, path.as_str())? {
+        return Ok(None);
+    }
+    let mut command = String::from_str(alloc, "lc explain . ")?;
+    push_quoted(&mut command, path.as_str())?;
+    Ok(Some(command))
+}
+
+/// Makes the advice for arguments of which the first, `first`, is no command: a command that the user may have meant.
+pub(crate) fn command<W: AsStr>(
+    alloc: Global,
+    first: &str,
+    words: &[W],
+) -> Result<Advice, AllocError> {
     if first == "help" {
         return example(alloc, "lc help count");
     }
     if let Some(meant) = word_meant(first) {
         return example(alloc, meant);
+    }
+    if let Some(meant) = explanation_meant(alloc, words)? {
+        return example(alloc, &meant);
+    }
+    if first.starts_with("--") {
+        return option_or(alloc, first, Subcommand::Count, COUNT);
     }
     let Some((name, meant)) = near_name(alloc, first, COMMANDS)? else {
         return count_of(alloc, first);
@@ -275,7 +310,7 @@ fn explain<W: AsStr>(alloc: Global, words: &[W], problem: &str) -> Result<Advice
             return with_tip(alloc, tip, EXPLAIN);
         }
     }
-    option_or(alloc, problem, Subcommand::Explain, EXPLAIN)
+    option_or(alloc, quoted(problem), Subcommand::Explain, EXPLAIN)
 }
 
 /// Makes the advice for refused arguments of a command. `problem` is clap's message.
@@ -288,8 +323,8 @@ pub(crate) fn advice_for<W: AsStr>(
     match command {
         Subcommand::Count => count(alloc, words, problem),
         Subcommand::Explain => explain(alloc, words, problem),
-        Subcommand::Check => option_or(alloc, problem, command, CHECK),
-        Subcommand::Sum => option_or(alloc, problem, command, SUM),
-        Subcommand::Diff => option_or(alloc, problem, command, DIFF),
+        Subcommand::Check => option_or(alloc, quoted(problem), command, CHECK),
+        Subcommand::Sum => option_or(alloc, quoted(problem), command, SUM),
+        Subcommand::Diff => option_or(alloc, quoted(problem), command, DIFF),
     }
 }
