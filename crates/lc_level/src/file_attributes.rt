@@ -126,8 +126,8 @@ fn are_same(owned: &[AttributeState], states: &[State<'_>]) -> bool
 /// The greatest number of different attributes that are kept to be shared.
 const MOST_KEPT: usize = 16;
 
-/// The different attributes of the files that were counted or read last. A file whose states are those of an earlier file shares its
-/// attributes, so it takes no memory for them.
+/// The different attributes of the files that were counted last. A file whose states are those of one of these files shares its attributes,
+/// so it takes no memory for them.
 #[derive(Drop)]
 pub(crate) struct SharedAttributes {
     kept: Vec<Arc<FileAttributes, Global>>,
@@ -140,7 +140,7 @@ impl SharedAttributes {
         }
     }
 
-    /// Returns attributes with these states, shared with an earlier file if one has the same states.
+    /// Returns attributes with these states, shared with one of the files if it has the same states.
     pub(crate) fn share(
         &mut self,
         alloc: Global,
