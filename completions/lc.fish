@@ -48,7 +48,7 @@ complete -c lc -n '__lc_command_is count sum diff' -l where -x -d 'Show only fil
 complete -c lc -n '__lc_command_is count sum diff' -l no-binary -d 'Show only files without a NUL byte'
 complete -c lc -n '__lc_command_is count sum' -l format -x -a "tsv\t'Fields between tabs' table\t'Columns for reading' json\t'One object' csv\t'Records of one kind' markdown\t'Tables for a page' html\t'A picture for a browser'" -d 'How to print'
 complete -c lc -n '__lc_command_is count sum' -l by -x -a '(__lc_columns dir ext text eol)' -d 'Sum rows by these columns'
-complete -c lc -n '__lc_command_is count sum diff' -l depth -x -a '1 2 3' -d 'Cut the directories of --by dir to so many segments'
+complete -c lc -n '__lc_command_is count sum diff' -l depth -x -a '1 2 3' -d 'Cut the directories of --by dir after so many names'
 complete -c lc -n '__lc_command_is count sum' -l sort -x -a "name\t'By name' files\t'Most files first' lines\t'Most lines first' blank\t'Most blank lines first' bytes\t'Most bytes first'" -d 'Sort rows and files, largest first, or by name'
 complete -c lc -n '__lc_command_is count sum diff' -l top -x -a '10 20 50' -d 'Print only the first rows and files'
 complete -c lc -n '__lc_command_is count sum' -l share -d 'Also print the share of each row in the total'

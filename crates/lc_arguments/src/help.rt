@@ -65,7 +65,8 @@ pub(crate) const COUNT: CommandHelp = CommandHelp {
     after_long: "\
 lc counts each file under DIR, unless a rule skips it: a rule in a .gitignore of
 DIR or below, in .git/info/exclude, in the file of --exclude-from, or of
---exclude. A file with several hard links is counted under each of its names.
+--exclude. --include, --archive, --without, --only, --only-from and -x skip
+files, too. A file with several hard links is counted under each of its names.
 Entries named .git, symbolic links and special files are always skipped. lc
 reads no rules above DIR, no configuration of Git and not its index: an ignored
 file is skipped even if Git tracks it.
@@ -86,13 +87,13 @@ Each row is for the files of one kind:
 In table, markdown and json, text and binary are the sums over the files without
 and with a NUL byte. A file without one counts as text, whatever its bytes.
 
-The lines below the rows begin with total, directories, entries, file, left (a
-skipped entry, and why) or fault (what could not be read). man lc and
-docs/OUTPUT.md describe each.
+The lines below the rows begin with others (the sums of the rows that --top cuts
+off), total, directories, entries, file, left (a skipped entry, and why) or
+fault (what could not be read). man lc and docs/OUTPUT.md describe each.
 
 Exit status:
   0  everything was counted
-  1  the table was written, and lists what could not be read
+  1  the table was written, but something could not be read
   2  usage error
   3  no table, or a part of it; standard error shows why
   4  --fail-if-any: the table was written, and a file was counted
@@ -137,8 +138,8 @@ Without --by, rows are by those of ext, text and eol that every REPORT has.
 were counted with --files, and --left-out those counted with --left-out.
 
 Exit status:
-  0  everything was added, and nothing in a REPORT could not be read
-  1  the table was written, and lists what a REPORT could not read
+  0  everything was added, and no REPORT lists what could not be read
+  1  the table was written, but a REPORT lists what could not be read
   2  usage error
   3  no table, or a part of it; standard error shows why
   4  --fail-if-any: the table was written, and it has a file
@@ -159,10 +160,11 @@ OLD and NEW are each a directory, which is counted as lc count does, or a report
 that lc sum reads; - is a report on standard input. Options that choose files
 hold for directories; --where holds for both sides.
 
-Each row has the old and the new number of files, lines, blank lines and bytes.
-A row in which no number changed is not printed, except with --all. Paths are
-compared as they are. Lines that were added and lines that were removed within a
-file are not told apart.
+Each row has the old and the new number of files, lines, blank lines and bytes;
+in table and markdown, the new numbers and how they changed. A row in which no
+number changed is not printed, except with --all. Paths are compared as they
+are. Lines that were added and lines that were removed within a file are not
+told apart.
 
 Exit status:
   0  both sides were read, whether or not they differ
@@ -190,10 +192,10 @@ decides, its pattern, and the path.
   included  the last rule that matches begins with ! and keeps the path
   none      no rule matches
   below     a directory above the path is ignored, by the rule shown
-  left      lc count skips the path for a reason that is no rule: git (.git),
-            other (neither file nor directory), attribute:ATTR, or include (a
-            file that no --include matches)
-  bad       no file or directory can have this path
+  left      lc count skips the path, or a directory above it, for a reason that
+            is no rule: git (.git), other (neither file nor directory),
+            attribute:ATTR, or include (a file that no --include matches)
+  bad       no file or directory can have this path, or it is over 4,096 bytes
   fault     a directory or rule file on the way could not be read
 
 A path is relative to DIR, wherever lc is started, and need not exist. It may
@@ -225,7 +227,7 @@ Paths come one a line. Each line of output is a word, a tab and the path.
   included  the last rule that matches begins with ! and keeps the path
   none      no rule matches
   below     a directory above the path is ignored
-  bad       no file or directory can have this path
+  bad       no file or directory can have this path, or it is over 4,096 bytes
 
 Paths are relative to the directory of FILE and need not exist. A slash at the
 end of a path means a directory. Plain find prints paths that begin with ./ and

@@ -114,21 +114,22 @@ that has a thousandth of the lines or more",
         "by",
         WHAT_IS_PRINTED,
         "Sum rows by some of dir, ext, text and eol, separated by commas: --by
-ext prints one row for each extension, --by dir one for each directory
-right under DIR, or as deep as --depth says",
+ext prints one row for each extension, --by dir one for the files of
+DIR itself and one for each directory right under DIR, or as deep as
+--depth says",
     ),
     (
         "depth",
         WHAT_IS_PRINTED,
-        "Cut the directories of --by dir to their first N segments, 1 to 256
-[default: 1]",
+        "Cut the directories of --by dir after their first N names, 1 to 256;
+. and .. are no names [default: 1]",
     ),
     (
         "sort",
         WHAT_IS_PRINTED,
         "Sort rows and the lines of --files: by files, lines, blank or bytes,
-largest first, or by name. The default is lines in table and markdown
-and with --top, and else name",
+largest first, or by name. The default is lines in table, markdown and
+html and with --top, and else name",
     ),
     (
         "top",
@@ -181,8 +182,8 @@ const OF_DIFFERENCES: &[(&str, &str, &str)] = &[
         "files",
         WHAT_IS_PRINTED,
         "Also print a line for each file that was added, removed or changed.
-A file that moved is removed and added. A file with the same numbers
-as before is not seen to change",
+A file that moved is removed and added. A file with the same attribute
+text, line ends and numbers as before is not seen to change",
     ),
     (
         "format",
@@ -209,8 +210,9 @@ lines in table and markdown, and else name",
     (
         "fail-if-any",
         WHAT_IS_PRINTED,
-        "Exit with status 4 if a row or a file differs, as a check in CI does.
-Paths that could not be read do not change this status",
+        "Exit with status 4 if a row or a file that --files lists differs, as a
+check in CI does. Paths that could not be read do not change this
+status",
     ),
 ];
 

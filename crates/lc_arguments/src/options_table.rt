@@ -217,8 +217,8 @@ const OPTIONS: &[OptionRow] = &[
         kind: Kind::Number(MAX_DEPTH),
         of: TABLES,
         heading: WHAT_IS_PRINTED,
-        help: "Cut directories of --by dir to N segments [default: 1]",
-        brief: "Cut the directories of --by dir to so many segments",
+        help: "Cut directories of --by dir after N names [default: 1]",
+        brief: "Cut the directories of --by dir after so many names",
         example: "lc count --by dir --depth 2 .",
         completes: Completes::Words(&["1", "2", "3"]),
         ..FLAG
