@@ -46,20 +46,24 @@ _lc_value() {
 }
 # the options end here
 
-# Whether a first argument makes all arguments those of lc count.
+# Whether a first argument makes all arguments those of lc count. A directory is known once the argument is whole, so $2 is over 1.
 _lc_counts() {
-  [[ $1 == -* || $1 == . || $1 == .. || $1 == */* ]]
+  case $1 in
+    -* | . | .. | */*) ;;
+    count | sum | diff | explain | check | help) return 1 ;;
+    *) [[ $2 -gt 1 && -d $1 ]] ;;
+  esac
 }
 
 _lc() {
   local current=${COMP_WORDS[COMP_CWORD]} option=${COMP_WORDS[COMP_CWORD - 1]} command=${COMP_WORDS[1]}
   local options='--help -h'
   COMPREPLY=()
-  if _lc_counts "$command"; then
+  if _lc_counts "$command" "$COMP_CWORD"; then
     command=count
     [ "$COMP_CWORD" -gt 1 ] || options+=' --version -V'
   elif [ "$COMP_CWORD" -eq 1 ]; then
-    mapfile -t COMPREPLY < <(compgen -W 'count sum diff explain check help' -- "$current")
+    mapfile -t COMPREPLY < <(compgen -W 'count sum diff explain check help' -- "$current"; compgen -d -- "$current")
     return
   fi
   # bash takes the = of --threads=8 as a word

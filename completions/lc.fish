@@ -1,6 +1,7 @@
 # Completions of lc for fish.
 
-# Whether the command on the line is one of these. A first argument that is an option or a path makes all arguments those of lc count.
+# Whether the command on the line is one of these. A first argument that is an option, a path or a directory makes all arguments those of lc
+# count.
 function __lc_command_is
     set -l words (commandline -opc) (commandline -ct)
     switch "$words[2]"
@@ -9,7 +10,7 @@ function __lc_command_is
         case '-*' . .. '*/*'
             contains -- count $argv
         case '*'
-            false
+            test (count (commandline -opc)) -gt 1; and test -d "$words[2]"; and contains -- count $argv
     end
 end
 
@@ -28,6 +29,7 @@ complete -c lc -n __fish_use_subcommand -a diff -d 'Compare two directories or r
 complete -c lc -n __fish_use_subcommand -a explain -d 'Show which rule skips or keeps a path'
 complete -c lc -n __fish_use_subcommand -a check -d 'Match paths against the rules of one file'
 complete -c lc -n __fish_use_subcommand -a help -d 'Print help'
+complete -c lc -n __fish_use_subcommand -a '(__fish_complete_directories)'
 complete -c lc -n __fish_use_subcommand -l version -s V -d 'Print the version'
 complete -c lc -l help -s h -d 'Print help'
 # Options: made by tools/options

@@ -2,7 +2,7 @@
 //! path is ignored.
 //!
 //! Most of the program is in the function `lc_program::program`. This crate calls the function with the arguments, the streams, and the
-//! directories and files of the host. This crate also shows the progress line of a long count on a terminal.
+//! directories and files of the host. This crate also shows the progress line of a long count or comparison on a terminal.
 //!
 //! - `host_system`: the directories and files of the host
 //! - `unread`: why a directory or a file of the host can't be read
@@ -20,7 +20,6 @@ mod watched_sink;
 mod watched_tree;
 
 use host_system::HostSystem;
-use lc_arguments::count_words;
 use lc_io::{StdSink, StdSource};
 use lc_program::{Cause, Streams, Terminals, give_up, misuse, program};
 use progress::Progress;
@@ -30,6 +29,11 @@ use std::env::Env;
 use std::io::{ErrorKind, IsTerminal};
 use std::process::ExitCode;
 use watched_sink::WatchedSink;
+
+/// Returns whether arguments request an explanation. It may wait for paths, so the directories that it opens are no progress.
+fn is_explanation(words: &[String]) -> bool {
+    words.first().is_some_and(|word| word.as_str() == "explain")
+}
 
 /// Returns whether `TERM` says that the terminal can't rewrite a line.
 fn is_dumb<R: Env + AllocGlobal>(rt: &R) -> bool {
@@ -63,10 +67,10 @@ fn main(rt: HostRuntime) -> ExitCode {
         output: rt.stdout().is_terminal(),
         error: rt.stderr().is_terminal(),
     };
-    let progress = if count_words(&words).is_some() && terminals.error && !is_dumb(&rt) {
-        Progress::new(&rt, rt.alloc(), rt.stderr())
-    } else {
+    let progress = if is_explanation(&words) || !terminals.error || is_dumb(&rt) {
         None
+    } else {
+        Progress::new(&rt, rt.alloc(), rt.stderr())
     };
     let progress = progress.as_ref();
     let mut streams = Streams {

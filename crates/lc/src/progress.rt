@@ -1,4 +1,4 @@
-//! The progress line that a long count shows on a terminal.
+//! The progress line that a long count or comparison shows on a terminal.
 
 use lc_formats::push_number;
 use std::alloc::{AllocError, Global};
@@ -6,7 +6,7 @@ use std::io::{Stderr, Write};
 use std::sync::atomic::{AtomicBool, AtomicU64, Ordering};
 use std::time::Clock;
 
-/// The time that a count runs before it shows its progress line, in milliseconds.
+/// The time that the program runs before it shows its progress line, in milliseconds.
 const DELAY: u64 = 1000;
 
 /// The least time between two updates of the progress line, in milliseconds.
@@ -35,8 +35,8 @@ impl Opened {
     }
 }
 
-/// The numbers of directories and files that a count has opened, and when they are next shown on a terminal. The count's result does not
-/// depend on them.
+/// The numbers of directories and files that the program has opened, and when they are next shown on a terminal. The program's answer does
+/// not depend on them.
 #[derive(Drop)]
 pub(crate) struct Progress {
     alloc: Global,
@@ -67,7 +67,7 @@ fn push_count(
 }
 
 impl Progress {
-    /// Makes the progress of a count that has opened nothing yet, or `None` if the clock can't be read.
+    /// Makes the progress of a program that has opened nothing yet, or `None` if the clock can't be read.
     pub(crate) fn new(clock: &impl Clock, alloc: Global, terminal: Stderr) -> Option<Progress> {
         let now = milliseconds(clock)?;
         Some(Progress {
@@ -110,7 +110,7 @@ impl Progress {
         let next = now.saturating_add(PERIOD);
         let order = Ordering::SeqCst;
         if self.due.compare_exchange(due, next, order, order).is_ok() {
-            // The count does not depend on the line, so a failed write is ignored.
+            // The answer does not depend on the line, so a failed write is ignored.
             let _ = self.show();
         }
     }

@@ -1,8 +1,8 @@
 -- Which arguments a text names: help names the arguments of its command, and a usage error names one argument.
-use Rattle.std.specs.Prelude.{◌≡◌, ◌⊎◌, ℕ, Bool, true, false, cond, is_some, bytes_eq, List, [], ◌∷◌, ◌++◌, codes, string_bytes, Option}
-use Rattle.std.specs.{Prelude.{Some, None, ⊤}, Str.Iter.HasSubslice}
+use Rattle.std.specs.Prelude.{◌≡◌, ◌⊎◌, ◌&&◌, not, ℕ, Bool, true, false, cond, is_some, bytes_eq, List, [], ◌∷◌, ◌++◌, codes}
+use Rattle.std.specs.{Prelude.{Option, Some, None, ⊤, string_bytes}, Str.Iter.HasSubslice}
 use Rattle.lc_text.specs.Visible.{visible_bytes}
-use Rattle.lc_arguments.specs.{Options.{OptionModel, is_of, options}, Words.count_words}
+use Rattle.lc_arguments.specs.{Options.{OptionModel, is_of, options}, Words.{count_words, is_own_option}}
 use Rattle.lc_arguments.specs.declared.option_row.Kind.{Kind, TheVariants.{Flag, Text, Texts, Number, Word, Words}}
 use Rattle.lc_arguments.specs.declared.option_row.Subcommand.{Subcommand, TheVariants.{Count, Explain, Check, Diff, Sum}}
 use Rattle.lc_arguments.specs.declared.request.ParseExit.{ParseExit, TheVariants.{Shown, Refused, Memory}}
@@ -46,6 +46,12 @@ named_by word =
 abbrev pub named_command : List (List ℕ) → Option Subcommand
 named_command [] = None
 named_command (word ∷ words) = cond (is_some (count_words (word ∷ words))) (Some Count) (named_by word)
+
+-- the first word may be the name of a directory that begins a count: words name no command by it, and it asks for no help or version
+abbrev pub may_be_directory : List (List ℕ) → Bool
+may_be_directory [] = false
+may_be_directory (word ∷ words) =
+    not (is_some (named_command (word ∷ words))) && (not (is_own_option word) && not (bytes_eq word (codes "help")))
 
 -- the help of a command names its arguments in the table. A text about the program, its help or its version, names the program
 unfoldable pub IsTextOf : Option Subcommand → List ℕ → Type 0

@@ -1,8 +1,10 @@
 //! What the first argument means: it names a command, or it begins a count that is typed without the word `count`.
 
 ghost use Rattle.std.specs.Prelude.{◌≡◌, map, option_map};
+ghost use Rattle.lc_arguments.specs.Naming.{may_be_directory};
 ghost use Rattle.lc_arguments.specs.Words.{begins_count, begins_with_hyphen, count_words, is_own_option, is_plain_path};
 
+use crate::naming::named_command;
 use std::convert::AsStr;
 
 fn begins_with_hyphen(word: &str) -> bool
@@ -54,4 +56,21 @@ pub fn count_words<'w, W: AsStr>(words: &'w [W]) -> Option<&'w [W]>
         return Some(words);
     }
     None
+}
+
+/// Returns whether the first argument begins a count if it is the name of a directory. It is then no option and no command, and has no
+/// slash.
+///
+/// ```
+/// assert!(rt; may_be_directory(&["src", "doc"]));
+/// assert!(rt; !may_be_directory(&["sum"]));
+/// ```
+pub fn may_be_directory<W: AsStr>(words: &[W]) -> bool
+    ensures { result ≡ may_be_directory (map W.text words.now) }
+{
+    let Some((first, _)) = words.split_first() else {
+        return false;
+    };
+    let first = first.as_str();
+    named_command(words).is_none() && !is_own_option(first) && first != "help"
 }

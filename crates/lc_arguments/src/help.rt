@@ -33,10 +33,10 @@ pub(crate) const LC: CommandHelp = CommandHelp {
     after: "Example: lc .",
     after_long: "\
 The word count may be omitted: lc counts if its first argument is an option of
-lc count, is . or .., or has a slash.
+lc count, is . or .., has a slash, or is a directory and no command.
 
   lc .
-  lc ./src
+  lc src
   lc --by ext /usr/include
 
 Without arguments, lc reads the lines of an ignore file, a line --, and paths
@@ -98,8 +98,8 @@ Exit status:
   3  no table, or a part of it; standard error shows why
   4  --fail-if-any: the table was written, and a file was counted
 
-The word count may be omitted before an option, . or .., or a path with a
-slash: lc --by ext src.
+The word count may be omitted before an option, a path with a slash, or a
+directory whose name is no command: lc src, lc --by ext src.
 
 Examples:
   lc .

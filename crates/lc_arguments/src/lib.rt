@@ -71,7 +71,7 @@ pub use diff::DiffRequest;
 pub use directories::unslashed;
 pub use explain::ExplainRequest;
 pub use filter_request::FilterRequest;
-pub use first_word::count_words;
+pub use first_word::{count_words, may_be_directory};
 pub use limits::{MAX_DIRS, MAX_THREADS};
 pub use option_row::{Commands, Completes, Kind, OptionRow};
 pub use options_table::options;

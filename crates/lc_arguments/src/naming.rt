@@ -211,7 +211,7 @@ fn named_by(word: &str) -> Option<Subcommand>
 }
 
 /// Returns the command that arguments name, or `None` if they name none.
-fn named_command<W: AsStr>(words: &[W]) -> Option<Subcommand>
+pub(crate) fn named_command<W: AsStr>(words: &[W]) -> Option<Subcommand>
     ensures { result ≡ named_command (map W.text words.now) }
 {
     let Some((first, _)) = words.split_first() else {

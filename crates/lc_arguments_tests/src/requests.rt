@@ -1,7 +1,7 @@
 //! Tests of command lines, and of the requests that they make.
 
 use crate::texts::{Case, check_all, words_of};
-use lc_arguments::{ParseExit, Request, count_words, unslashed};
+use lc_arguments::{ParseExit, Request, count_words, may_be_directory, unslashed};
 use lc_sheet::{Columns, Format, Number};
 use std::alloc::{AllocError, Global};
 use std::test::Fail;
@@ -368,6 +368,21 @@ fn words_of_counts(rt: HostRuntime) -> Result<(), Fail> {
     ] {
         assert!(rt; count_words(&[word]).is_none(), "{word}");
     }
+    Ok(())
+}
+
+#[test]
+fn words_that_may_be_directories(rt: HostRuntime) -> Result<(), Fail> {
+    for word in ["", "src", "...", "a dir", "counts"] {
+        assert!(rt; may_be_directory(&[word, "."]), "{word}");
+    }
+    for word in [
+        "count", "sum", "diff", "explain", "check", "help", "-V", "--help", "-x", ".", "src/",
+    ] {
+        assert!(rt; !may_be_directory(&[word]), "{word}");
+    }
+    let none: [&str; 0] = [];
+    assert!(rt; !may_be_directory(&none));
     Ok(())
 }
 

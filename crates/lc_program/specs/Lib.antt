@@ -19,6 +19,7 @@ pub mod Styles
 pub mod Sums
 pub mod Systems
 pub mod Tellings
+pub mod Typed
 pub mod Unlisted
 pub mod Unmatched
 pub mod Unnamed

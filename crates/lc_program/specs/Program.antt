@@ -3,7 +3,7 @@ use Rattle.std.specs.Prelude.{◌≡◌, ◌⊎◌, ℕ, Bool, List, [], Option,
 use Rattle.lc_io.specs.{declared.source.Failed.Failed, Reads.Answer, Writes.{Writes, StopsWriting}}
 use Rattle.lc_program.specs.{Causes.{HasNumber, cause_line}, Counts.names_of, Faults.TellsFaults, Hints.Hints, Introductions.Introduces}
 use Rattle.lc_program.specs.{Replies.{Reply, ending_of}, Requests.AnswersRequest, SideFaults.TellsSideFaults, Styles.format_for}
-use Rattle.lc_program.specs.{Systems.SystemMay, Tellings.Tells, Unlisted.TellsUnlisted, Unmatched.unmatched_in}
+use Rattle.lc_program.specs.{Systems.SystemMay, Tellings.Tells, Typed.AreReadAs, Unlisted.TellsUnlisted, Unmatched.unmatched_in}
 use Rattle.lc_program.specs.declared.answered.Answered.{Answered, TheVariants.{Compared, Counted, Explained, Summed}}
 use Rattle.lc_program.specs.declared.cause.Cause.{Cause, TheVariants.{Memory, Unwritten}}
 use Rattle.lc_program.specs.declared.ending.Ending.{Ending, TheVariants.{AnyFile, Done, SomeFaults, Misused, GaveUp}}
@@ -125,3 +125,11 @@ module _ {I O E : Type 0} (system : SystemMay) (may : StreamsMay I O E) (words :
       GivesUp before cause after
       ⊎ (Shows before (GaveUp cause) after
       ⊎ ((cause ≡ Memory) × (after.input ≡ before.input) × (after.out ≡ before.out) × TellsCause may.tell before.err cause after.err))
+
+module _ {I O E : Type 0} (system : SystemMay) (may : StreamsMay I O E) (typed : List (List ℕ)) (terminals : Terminals) where
+  -- the program ends so on the words that were typed: on those that are read for them, or there was no memory to read them
+  abbrev pub EndsTyped : Streams I O E → Ending → Streams I O E → Type 0
+  EndsTyped before ending after =
+      ((words : List (List ℕ)) × AreReadAs system.unlist typed words × Ends system may words terminals before ending after)
+      ⊎ ((ending ≡ GaveUp Memory) × (after.input ≡ before.input) × (after.out ≡ before.out)
+      × TellsCause may.tell before.err Memory after.err)

@@ -1,5 +1,5 @@
 -- Why a path could not be read, as lines on standard error say it.
-use Rattle.std.specs.Prelude.{ℕ, List, [], ◌++◌, Option, Some, None, codes}
+use Rattle.std.specs.Prelude.{ℕ, Bool, true, false, List, [], ◌++◌, Option, Some, None, codes}
 use Rattle.lc_text.specs.Visible.{visible_bytes}
 use Rattle.lc_program.specs.{Commands.file_count, declared.unread_reason.UnreadReason.UnreadReason}
 use Rattle.lc_program.specs.declared.unread_reason.UnreadReason.TheVariants.{Missing, Denied, IsDirectory, IsFile, NotDirectory, Other}
@@ -25,6 +25,15 @@ unread_for path why = codes "lc: cannot read " ++ visible_bytes path ++ reason_g
 -- the line that says that the directory of an explanation, or a report, could not be read
 abbrev pub unexplained_line : List ℕ → Option UnreadReason → List ℕ
 unexplained_line directory why = unread_for directory why ++ codes "\n"
+
+-- a directory can't be listed for this reason: it is none
+abbrev pub is_no_directory : UnreadReason → Bool
+is_no_directory Missing = true
+is_no_directory Denied = false
+is_no_directory IsDirectory = false
+is_no_directory IsFile = true
+is_no_directory NotDirectory = true
+is_no_directory Other = false
 
 -- the words that show how to count a file that was named in place of a directory; nothing for any other reason
 abbrev pub count_instead : List ℕ → Option UnreadReason → List ℕ

@@ -1,5 +1,5 @@
 -- How a request is answered, by what was read and written.
-use Rattle.std.specs.{Prelude.{◌≡◌, ◌⊎◌, ℕ, Bool, true, false, List, [], ◌∷◌, map, Result, Ok, Err}, Borrow.Bor}
+use Rattle.std.specs.{Prelude.{◌≡◌, ◌⊎◌, ℕ, Bool, true, false, List, [], ◌∷◌, map, IfSome, Option, Some, Result, Ok, Err}, Borrow.Bor}
 use Rattle.lc_io.specs.{declared.{source.Failed.Failed, printing.PrintFault.PrintFault}, Reads.Answer}
 use Rattle.lc_level.specs.Filters.{FiltersModel}
 use Rattle.lc_rules.specs.IgnoreRules.{rules_of}
@@ -13,7 +13,9 @@ use Rattle.lc_arguments.specs.declared.request.Request.{Request, TheVariants.{Ch
 use Rattle.lc_arguments.specs.declared.explain.ExplainRequest.{ExplainRequest}
 use Rattle.lc_program.specs.{Counts.AnswersCount, Differences.AnswersDiff, Replies.{Reply, checked, explained, told}}
 use Rattle.lc_program.specs.{Filters.{AnswersFilters, GaveNoRules, LacksRules, LoadsFile}, Styles.{end_for, format_for, format_with}}
-use Rattle.lc_program.specs.{Styles.style_for, Sums.AnswersSum, Systems.SystemMay, declared.cause.Cause.{Cause, TheVariants.Memory}}
+use Rattle.lc_program.specs.{Finds.HasLine, Reasons.{is_no_directory, unexplained_line}, Styles.style_for, Sums.AnswersSum}
+use Rattle.lc_program.specs.{Systems.SystemMay, declared.cause.Cause.{Cause, TheVariants.Memory}}
+use Rattle.lc_program.specs.declared.unread_reason.UnreadReason.{UnreadReason}
 
 -- the explanations of paths in a tree, by what the tree may answer
 module _ (lists : List ℕ → Listings) (gives : List ℕ → Contents) {I O : Type 0} (may_give : I → ℕ → Answer → I → Type 0)
@@ -50,18 +52,32 @@ module _ {I O : Type 0} (may_give : I → ℕ → Answer → I → Type 0) (may_
       × AnswersPathCheck format name is_explained bytes input out answer read wrote)
       ⊎ ((cause : Cause) × GaveNoRules (holds name) cause × (reply ≡ Err cause) × (read ≡ input) × (wrote ≡ out))
 
+module _ (may_unlist : List ℕ → Option UnreadReason → Type 0) where
+  -- the directory of an explanation is refused for this cause: it is none by the system's answer, or an allocation failed
+  abbrev pub RefusesDirectory : List ℕ → Cause → Type 0
+  RefusesDirectory directory cause =
+      ((why : UnreadReason) × may_unlist directory (Some why) × (is_no_directory why ≡ true)
+      × HasLine (unexplained_line directory (Some why)) cause)
+      ⊎ (cause ≡ Memory)
+
+  -- whether the directory of an explanation is refused
+  abbrev pub AnswersDirectory : List ℕ → Result (Unit {0}) Cause → Type 0
+  AnswersDirectory directory (Ok _) =
+      (why : Option UnreadReason) × may_unlist directory why × IfSome why (λ reason. is_no_directory reason ≡ false)
+  AnswersDirectory directory (Err cause) = RefusesDirectory directory cause
+
 module _ (may : SystemMay) {I O : Type 0} (may_give : I → ℕ → Answer → I → Type 0)
     (may_take : O → List ℕ → Result ℕ Failed → O → Type 0) where
-  -- how an explanation of the paths in a directory is answered: they are explained by what the command line requests; or there were no
-  -- rules or no memory, and nothing was read or written
+  -- how an explanation of the paths in a directory is answered: by the system's answer the directory may be one, and the paths are explained
+  -- by what the command line requests; or the directory was refused, or there were no rules, and nothing was read or written
   abbrev pub AnswersExplanation : PathStyle → ExplainRequest → I → O → Reply → I → O → Type 0
   AnswersExplanation style c input out reply read wrote =
-      ((f : FiltersModel) × AnswersFilters may.hold may.unread c.filters (Ok f)
+      (AnswersDirectory may.unlist c.directory.now (Ok tt) × ((f : FiltersModel) × AnswersFilters may.hold may.unread c.filters (Ok f)
       × ((q : ExplainOptions) × (q.filters.now ≡ f) × (q.style ≡ style)
       × AnswersPaths (may.list c.directory.now All) (may.give c.directory.now All) may_give may_take q c.null c.paths.items input out reply
-      read wrote))
-      ⊎ ((cause : Cause) × (LacksRules may.hold may.unread c.filters cause ⊎ (cause ≡ Memory)) × (reply ≡ Err cause) × (read ≡ input)
-      × (wrote ≡ out))
+      read wrote)))
+      ⊎ ((cause : Cause) × (RefusesDirectory may.unlist c.directory.now cause ⊎ LacksRules may.hold may.unread c.filters cause)
+      × (reply ≡ Err cause) × (read ≡ input) × (wrote ≡ out))
 
   -- how a request is answered. If the output is a terminal, paths are printed for it, except in a table, and a table has another format if
   -- none is named

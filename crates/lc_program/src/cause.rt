@@ -52,8 +52,8 @@ pub enum Cause {
     /// Two paths of a count lead to the same directory, or one counted directory lies in another. The text is the line for standard error,
     /// which names both directories.
     Nested(String),
-    /// One of several directories, or a directory of a comparison, has too many directories, or a path that is too long or too deep. The
-    /// text is the line for standard error, which names the directory.
+    /// One of several directories, or a directory of a comparison, has too many directories, or a path that is too long or too deep. Or the
+    /// directory of an explanation is none. The text is the line for standard error, which names the directory.
     InDirectory(String),
     /// A report, or a directory of a comparison, can't be read or used, or an option chooses files but both sides are reports. The text is
     /// the line for standard error, which says what is wrong and where.

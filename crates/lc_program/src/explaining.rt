@@ -1,7 +1,7 @@
 //! Answers `lc explain`: shows which rule decides each path.
 
 ghost use Rattle.std.specs.Prelude.{◌≡◌};
-ghost use Rattle.lc_program.specs.Requests.{AnswersExplanation, AnswersPaths};
+ghost use Rattle.lc_program.specs.Requests.{AnswersDirectory, AnswersExplanation, AnswersPaths};
 ghost use Rattle.lc_program.specs.Systems.{may_of};
 
 use crate::answered::Answered;
@@ -9,6 +9,7 @@ use crate::cause::Cause;
 use crate::checking::path_end;
 use crate::filters::read_filters;
 use crate::system::System;
+use crate::unlisted::unexplained_line;
 use lc_arguments::ExplainRequest;
 use lc_io::{Sink, Source};
 use lc_level::Filters;
@@ -37,6 +38,19 @@ fn explain_paths<T: Tree, S: Source, O: Sink>(
     Ok(Answered::Explained(outcome))
 }
 
+/// Refuses a directory that is none by the system's answer, such as a path of the explanation in its place.
+fn refuse_no_directory<Y: System>(alloc: Global, system: &Y, directory: &str) -> Result<(), Cause>
+    ensures { AnswersDirectory (Y.unlists system.now) directory.now result }
+{
+    match system.why_unlisted(alloc, directory)? {
+        Some(reason) if reason.is_no_directory() => {
+            let line = unexplained_line(alloc, directory, Some(reason))?;
+            Err(Cause::InDirectory(line))
+        }
+        _ => Ok(()),
+    }
+}
+
 /// Makes the options of an explanation.
 fn options_of<'o>(filters: &'o Filters<'_>, style: PathStyle) -> ExplainOptions<'o>
     ensures filters { result.filters.now ≡ filters.entry.now }
@@ -57,6 +71,7 @@ pub(crate) fn explain_asked<Y: System, S: Source, O: Sink>(
     ensures { AnswersExplanation (may_of Y.Tree.Tree Y.System system.now)
         S.may_give O.may_take style asked.now input.old out.old result input.new out.new }
 {
+    refuse_no_directory(alloc, system, asked.directory)?;
     let filters = read_filters(alloc, system, &asked.filters, None)?;
     let tree = system.tree(alloc, asked.directory, FileSystems::All)?;
     let options = options_of(&filters, style);

@@ -25,6 +25,7 @@
 //! - `runs`: the walk of a tree, and the table of its report
 //! - `showing`: making and writing the text of a report
 //! - `ending`, `cause`: how the program ends, and why it stops with an error
+//! - `typed`: the arguments that the program reads, by those that were typed
 //! - `telling`: writing help, the version, and why the program stops or refuses its arguments
 //! - `introducing`: the line on standard error that says what the program reads from a terminal
 //! - `faults`: the lines on standard error about what a count or a sum could not read
@@ -68,6 +69,7 @@ mod streams;
 mod summing;
 mod system;
 mod telling;
+mod typed;
 mod unlisted;
 mod unmatched;
 mod unnamed;

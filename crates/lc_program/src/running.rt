@@ -1,7 +1,7 @@
 //! Runs the program: carries out the request of the arguments with the directories and files of a `System`, and writes to the streams.
 
 ghost use Rattle.std.specs.Prelude.{◌≡◌, ◌&&◌, map, nat_lt};
-ghost use Rattle.lc_program.specs.Program.{Advises, Comments, Ends, TellsUnread, status_of, streams_may};
+ghost use Rattle.lc_program.specs.Program.{Advises, Comments, Ends, EndsTyped, TellsUnread, status_of, streams_may};
 ghost use Rattle.lc_program.specs.Replies.{ending_of, has_failure};
 ghost use Rattle.lc_program.specs.Systems.{may_of};
 ghost use Rattle.lc_program.specs.declared.ending.Ending.{Ending};
@@ -17,6 +17,7 @@ use crate::side_faults::{SideFaults, tell_side_faults};
 use crate::streams::{Streams, Terminals};
 use crate::system::System;
 use crate::telling::{give_up, misuse, show};
+use crate::typed::read_as;
 use crate::unlisted::tell_unlisted;
 use crate::unmatched::unmatched_in;
 use crate::unnamed::tell_unnamed;
@@ -25,7 +26,7 @@ use lc_io::{Sink, Source, print};
 use lc_paths::Outcome;
 use lc_sheet::Format;
 use lc_walk::Report;
-use std::alloc::Global;
+use std::alloc::{AllocError, Global};
 use std::convert::AsStr;
 use std::sync::Wait;
 use std::thread::Threads;
@@ -143,7 +144,7 @@ fn advise<Y: System, E: Sink>(
     hint(alloc, system, request, stderr_is_terminal, err);
 }
 
-/// Runs the program, and returns how it ended.
+/// Runs the program with the arguments that it reads, and returns how it ended.
 fn end_of<R: Threads + Wait + Sync + AllocGlobal, Y: System, W: AsStr, S: Source, O: Sink, E: Sink>(
     rt: &R,
     system: &Y,
@@ -181,13 +182,32 @@ fn end_of<R: Threads + Wait + Sync + AllocGlobal, Y: System, W: AsStr, S: Source
     ending_of(&request, &answered)
 }
 
-/// Runs the program with the arguments `words`, and returns the exit status. The status is 0 for success, and 1 if the answer was written
+/// Runs the program with the arguments that were typed, and returns how it ended.
+fn end_of_typed<
+    R: Threads + Wait + Sync + AllocGlobal,
+    Y: System,
+    W: AsStr,
+    S: Source,
+    O: Sink,
+    E: Sink,
+>(rt: &R, system: &Y, typed: &[W], terminals: Terminals, streams: &mut Streams<S, O, E>) -> Ending
+    ensures { EndsTyped (may_of Y.Tree.Tree Y.System system.now)
+        (streams_may S.may_give O.may_take E.may_take) (map W.text typed.now) terminals streams.old result streams.new }
+{
+    match read_as(rt.alloc(), system, typed) {
+        Ok(words) => end_of(rt, system, &words, terminals, streams),
+        Err(AllocError) => give_up(rt.alloc(), Cause::Memory, &mut streams.err),
+    }
+}
+
+/// Runs the program with the arguments `typed`, and returns the exit status. The status is 0 for success, and 1 if the answer was written
 /// but some paths could not be read. The status is 2 for refused arguments, and 3 if the program stopped with an error, with one line on
 /// `err`. The status is 4, instead of 0 or 1, if `--fail-if-any` is used, and a counted file meets the conditions of `--where` or the sides
 /// of a comparison differ.
 ///
 /// The arguments decide what the program does:
 ///
+/// - a directory that is no command: counts it, like `count` before the arguments;
 /// - no arguments: reads the lines of an ignore file, a line `--`, and paths from the input, and checks the paths
 ///   ([`check_joined`](lc_paths::check_joined));
 /// - `check FILE`: reads the rules in FILE, then checks the paths of the input by these rules ([`check`](lc_paths::check); with `--explain`
@@ -210,10 +230,10 @@ pub fn program<
     S: Source,
     O: Sink,
     E: Sink,
->(rt: &R, system: &Y, words: &[W], terminals: Terminals, streams: &mut Streams<S, O, E>) -> u8
+>(rt: &R, system: &Y, typed: &[W], terminals: Terminals, streams: &mut Streams<S, O, E>) -> u8
     ensures { (ending : Ending) × (result ≡ status_of ending)
-        × Ends (may_of Y.Tree.Tree Y.System system.now)
-        (streams_may S.may_give O.may_take E.may_take) (map W.text words.now) terminals streams.old ending streams.new }
+        × EndsTyped (may_of Y.Tree.Tree Y.System system.now)
+        (streams_may S.may_give O.may_take E.may_take) (map W.text typed.now) terminals streams.old ending streams.new }
 {
-    end_of(rt, system, words, terminals, streams).status()
+    end_of_typed(rt, system, typed, terminals, streams).status()
 }

@@ -1,7 +1,7 @@
 //! Why a directory or a file could not be read.
 
 ghost use Rattle.std.specs.Prelude.{◌≡◌};
-ghost use Rattle.lc_program.specs.Reasons.{reason_text};
+ghost use Rattle.lc_program.specs.Reasons.{is_no_directory, reason_text};
 
 /// Why a directory or a file could not be read.
 #[derive(Clone, Copy)]
@@ -21,6 +21,16 @@ pub enum UnreadReason {
 }
 
 impl UnreadReason {
+    /// Returns whether there is no directory at the path.
+    pub(crate) fn is_no_directory(self) -> bool
+        ensures { result ≡ is_no_directory self }
+    {
+        matches!(
+            self,
+            UnreadReason::Missing | UnreadReason::IsFile | UnreadReason::NotDirectory
+        )
+    }
+
     /// Returns the text of the reason, which follows the name in a line on standard error.
     pub(crate) fn text(self) -> &'static str
         ensures { result.now ≡ reason_text self }

@@ -47,8 +47,8 @@ const CASES: &[Case<'static>] = &[
         ..WORKED
     },
     Case {
-        name: "another_directory",
-        words: &["count", "other"],
+        name: "another_directory_without_the_word_count",
+        words: &["other"],
         out: b"ext\ttext\teol\tfiles\tlines\tblank\tbytes\n\
                .x\t-\tlf\t1\t2\t0\t4\n\
                total\t*\t*\t1\t2\t0\t4\n\

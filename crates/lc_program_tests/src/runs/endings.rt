@@ -2,7 +2,7 @@
 
 use crate::runs::asking::{Case, EMPTY, NO_TERMINALS, compare_all};
 use crate::runs::mem_system::MemSystem;
-use lc_program::{Streams, program};
+use lc_program::{Streams, UnreadReason, program};
 use lc_tree::Node;
 use std::alloc::AllocError;
 use std::test::Fail;
@@ -22,6 +22,15 @@ const CASES: &[Case<'static>] = &[
         status: 2,
         err: b"error: invalid value '/src' for '--only <PATH>': expected a path relative to DIR, such as src/lib\n\n\
                For more information, try '--help'.\n",
+        ..EMPTY
+    },
+    Case {
+        name: "a_word_that_is_no_directory",
+        words: &["nowhere"],
+        why: Some(UnreadReason::Missing),
+        status: 2,
+        err: b"error: unrecognized subcommand 'nowhere'\n\nUsage: lc [OPTIONS] [DIR]...\n       lc <COMMAND> [OPTIONS] [ARGUMENTS]\n\n\
+               For more information, try '--help'.\n\nTo count a directory: lc count nowhere\n",
         ..EMPTY
     },
 ];

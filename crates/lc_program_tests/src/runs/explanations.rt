@@ -71,25 +71,24 @@ const CASES: &[Case<'static>] = &[
     Case {
         name: "why_a_directory_is_not_read",
         words: &["explain", "absent", "a"],
-        why: Some(UnreadReason::Missing),
+        why: Some(UnreadReason::Denied),
         status: 1,
         out: b"fault\tread\t-\t.\n",
-        err: b"lc: cannot read absent: no such file or directory\n",
+        err: b"lc: cannot read absent: permission denied\n",
         ..WORKED
     },
     Case {
         name: "a_file_is_not_read_as_a_directory",
         words: &["explain", "src/m.c", "a"],
         why: Some(UnreadReason::IsFile),
-        status: 1,
-        out: b"fault\tread\t-\t.\n",
+        status: 3,
         err: b"lc: cannot read src/m.c: not a directory\n",
         ..WORKED
     },
     Case {
         name: "a_directory_that_is_read",
         words: &["explain", "top", "src/m.c"],
-        why: Some(UnreadReason::Missing),
+        why: Some(UnreadReason::Denied),
         out: b"none\t-\t-\tsrc/m.c\n",
         ..WORKED
     },
