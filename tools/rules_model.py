@@ -311,11 +311,11 @@ class Tree:
     """A tree: a dictionary of names, a folder a dictionary, a file its bytes, anything else None.
 
     `without` has attributes: what has one of them Set is left out. `failing` has what can't be read: pairs of "list" and a directory's
-    path, "rules" or "count" and a file's.
+    path, "rules" or "count" and a file's. `lowest` is the text of the attribute file that each other one overrides.
     """
 
-    def __init__(self, tree, without=(), exclude=b"", failing=()):
-        self.tree, self.without, self.exclude, self.failing = tree, without, exclude, failing
+    def __init__(self, tree, without=(), exclude=b"", failing=(), lowest=b""):
+        self.tree, self.without, self.exclude, self.failing, self.lowest = tree, without, exclude, failing, lowest
         self.info, self.info_macros, self.attribute_files = [], {}, []
 
     def top(self):
@@ -325,7 +325,9 @@ class Tree:
         rules += rules_in_file(self.rules_in(info, b".git/info/", b"exclude"), 0, b".git/info/exclude")
         self.attribute_files.append(self.rules_in(info, b".git/info/", b"attributes"))
         self.info, self.info_macros = attribute_lines(self.attribute_files[0], True)
-        return self.inside(self.tree, b"", Here(rules, [], BUILT_IN))
+        self.attribute_files.append(self.lowest)
+        lowest, macros = attribute_lines(self.lowest, True)
+        return self.inside(self.tree, b"", Here(rules, [(0, *line) for line in lowest], {**BUILT_IN, **macros}))
 
     def info_of(self):
         """The entries of .git/info, none where that is no directory."""
@@ -434,8 +436,8 @@ class Explained(Tree):
 class Walk(Tree):
     """The recursive walk of a tree, or where `only` has paths of what stands at or below one of them."""
 
-    def __init__(self, tree, without=(), exclude=b"", failing=(), only=()):
-        super().__init__(tree, without, exclude, failing)
+    def __init__(self, tree, without=(), exclude=b"", failing=(), only=(), lowest=b""):
+        super().__init__(tree, without, exclude, failing, lowest)
         self.only = set(only)
         self.files, self.faults, self.absent, self.left, self.directories, self.entries = [], [], [], [], 0, 0
         try:
