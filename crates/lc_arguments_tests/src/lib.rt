@@ -13,3 +13,5 @@ mod requests;
 mod sums;
 #[cfg(test)]
 mod texts;
+#[cfg(test)]
+mod words;

@@ -1,7 +1,7 @@
 //! Tests of command lines, and of the requests that they make.
 
 use crate::texts::{Case, check_all, words_of};
-use lc_arguments::{ParseExit, Request, count_words, may_be_directory, unslashed};
+use lc_arguments::{ParseExit, Request};
 use lc_sheet::{Columns, Format, Number};
 use std::alloc::{AllocError, Global};
 use std::test::Fail;
@@ -343,63 +343,6 @@ fn orders_of_formats(rt: HostRuntime) -> Result<(), Fail> {
     ] {
         let found = sorted_by(rt.alloc(), line, format)?;
         assert!(rt; found == wanted, "{line}, {format:?}: {found:?}");
-    }
-    Ok(())
-}
-
-#[test]
-fn words_of_counts(rt: HostRuntime) -> Result<(), Fail> {
-    let words = ["count", "src"];
-    assert!(rt; count_words(&words).is_some_and(|rest| rest.len() == 1));
-    for word in [".", "..", "./src", "/", "-x", "--", "--by=ext", "-hV"] {
-        assert!(rt; count_words(&[word]).is_some(), "{word}");
-    }
-    for word in [
-        "",
-        "src",
-        "...",
-        "check",
-        "explain",
-        "help",
-        "-h",
-        "--help",
-        "-V",
-        "--version",
-    ] {
-        assert!(rt; count_words(&[word]).is_none(), "{word}");
-    }
-    Ok(())
-}
-
-#[test]
-fn words_that_may_be_directories(rt: HostRuntime) -> Result<(), Fail> {
-    for word in ["", "src", "...", "a dir", "counts"] {
-        assert!(rt; may_be_directory(&[word, "."]), "{word}");
-    }
-    for word in [
-        "count", "sum", "diff", "explain", "check", "help", "-V", "--help", "-x", ".", "src/",
-    ] {
-        assert!(rt; !may_be_directory(&[word]), "{word}");
-    }
-    let none: [&str; 0] = [];
-    assert!(rt; !may_be_directory(&none));
-    Ok(())
-}
-
-#[test]
-fn directories_without_slashes(rt: HostRuntime) -> Result<(), Fail> {
-    for (directory, wanted) in [
-        ("", ""),
-        (".", "."),
-        ("/", ""),
-        ("//", ""),
-        ("a", "a"),
-        ("a/", "a"),
-        ("/a//b//", "/a//b"),
-        ("../", ".."),
-    ] {
-        let found = unslashed(directory);
-        assert!(rt; found == wanted.as_bytes(), "{directory}: {found:?}");
     }
     Ok(())
 }

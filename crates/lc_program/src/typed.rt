@@ -8,7 +8,7 @@ use lc_arguments::may_be_directory;
 use std::alloc::{AllocError, Global};
 use std::convert::AsStr;
 
-/// Returns whether the first argument is a directory that begins a count. The system is only asked about a word that may be one.
+/// Returns whether the first argument is a directory that begins a count. A word that can be none costs no call of the system.
 fn begins_with_directory<Y: System, W: AsStr>(
     alloc: Global,
     system: &Y,

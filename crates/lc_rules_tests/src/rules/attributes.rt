@@ -365,16 +365,12 @@ fn is_too_long(alloc: Global, bytes: &[u8]) -> bool {
     matches!(AttrFile::read(alloc, bytes, true), Err(RuleFault::TooLong))
 }
 
-fn is_top(alloc: Global, bytes: &[u8], top: bool) -> Result<bool, AllocError> {
-    Ok(read(alloc, bytes, top)?.is_top())
-}
-
 #[test]
 fn at_most_a_mebibyte(rt: HostRuntime) -> Result<(), Fail> {
     let bytes = vec![in rt.alloc(); b'a'; 1_048_577]?;
     assert!(rt; is_too_long(rt.alloc(), &bytes));
-    assert!(rt; is_top(rt.alloc(), &bytes[1..], true)?);
-    assert!(rt; !is_top(rt.alloc(), b"a", false)?);
+    assert!(rt; read(rt.alloc(), &bytes[1..], true)?.is_top());
+    assert!(rt; !read(rt.alloc(), b"a", false)?.is_top());
     Ok(())
 }
 
