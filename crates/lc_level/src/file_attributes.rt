@@ -129,19 +129,20 @@ const MOST_KEPT: usize = 16;
 /// The different attributes of the files that were counted last. A file whose states are those of one of these files shares its attributes,
 /// so it takes no memory for them.
 #[derive(Drop)]
-pub(crate) struct SharedAttributes {
+pub struct SharedAttributes {
     kept: Vec<Arc<FileAttributes, Global>>,
 }
 
 impl SharedAttributes {
-    pub(crate) fn new(alloc: Global) -> SharedAttributes {
+    /// Makes a list of no attributes.
+    pub fn new(alloc: Global) -> SharedAttributes {
         SharedAttributes {
             kept: Vec::new(alloc),
         }
     }
 
     /// Returns attributes with these states, shared with one of the files if it has the same states.
-    pub(crate) fn share(
+    pub fn share(
         &mut self,
         alloc: Global,
         text: TextState,

@@ -60,7 +60,7 @@ pub use entering::{Entered, RuleTexts};
 pub use entry_looks::entry_named;
 pub use fault_site::FaultSite;
 pub use fault_word::FaultWord;
-pub use file_attributes::{AttributeState, FileAttributes};
+pub use file_attributes::{AttributeState, FileAttributes, SharedAttributes};
 pub use filters::Filters;
 pub use job::Job;
 pub use laws::{

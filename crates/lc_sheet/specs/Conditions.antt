@@ -1,10 +1,11 @@
 -- Conditions on files: a column, and a test of a file's value in the column.
 use Rattle.std.specs.{Prelude.{ℕ, Bool, true, false, not, nat_le, nat_eq, List, ◌++◌, codes}, List.list_any, Str.bytes_eq}
 use Rattle.lc_glob.specs.Pieces.{pieces_of}
-use Rattle.lc_sheet.specs.{Values.{ValueModel, missing, word, name, number}, declared.column.Column.Column}
+use Rattle.lc_sheet.specs.{Values.{ValueModel, missing, word, flag, flag_word, name, number}, declared.column.Column.Column}
 use Rattle.lc_sheet.specs.declared.condition.Comparison.{Comparison, TheVariants.{Less, AtMost, Equal, Unequal, AtLeast, Greater}}
 use Rattle.lc_sheet.specs.declared.condition.Test.{Test, TheVariants.{OneOf, NoneOf, Compared}}
 use Rattle.lc_sheet.specs.declared.column.Column.TheVariants as column
+use Rattle.lc_sheet.specs.declared.key.Key.TheVariants as key
 
 -- a test of a value: the value is one of these texts, or none of these texts, or its comparison with a number is true
 pub data TestModel : Type 0 where
@@ -33,11 +34,12 @@ compares Unequal n m = not (nat_eq n m)
 compares AtLeast n m = nat_le m n
 compares Greater n m = not (nat_le n m)
 
--- whether a text names a value on a command line: a hyphen names a missing value, a word itself, and an extension with its dot the
--- extension
+-- whether a text names a value on a command line: a hyphen names a missing value, a word itself, `set` and `unset` whether an attribute
+-- is set, an extension with its dot the extension, and other bytes themselves
 abbrev pub has_text : ValueModel → List ℕ → Bool
 has_text missing text = bytes_eq text (codes "-")
 has_text (word w) text = bytes_eq text w
+has_text (flag is_set) text = bytes_eq text (flag_word is_set)
 has_text (name n) text = bytes_eq text (n.front ++ n.bytes)
 has_text other text = false
 
@@ -51,13 +53,15 @@ meets (one_of texts) value = list_any (has_text value) texts
 meets (none_of texts) value = not (list_any (has_text value) texts)
 meets (compared comparison m) value = compares comparison (number_of value) m
 
-abbrev pub is_number : Column → Bool
-is_number (column.Number n) = true
-is_number other = false
+-- whether files alone have values in a column: numbers, of which rows have sums, and the states of attributes, which a report's rows lack
+abbrev pub is_of_files : Column → Bool
+is_of_files (column.Number n) = true
+is_of_files (column.Key (key.Attribute place)) = true
+is_of_files other = false
 
--- whether a condition is on a number; only files have such numbers, since rows have sums
-abbrev pub is_on_number : ConditionModel → Bool
-is_on_number c = is_number c.column
+-- whether a condition is on such a column
+abbrev pub is_on_files : ConditionModel → Bool
+is_on_files c = is_of_files c.column
 
 abbrev pub needs_files : List ConditionModel → Bool
-needs_files cs = list_any is_on_number cs
+needs_files cs = list_any is_on_files cs

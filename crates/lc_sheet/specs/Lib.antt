@@ -1,3 +1,4 @@
+pub mod AttributeColumns
 pub mod Keys
 pub mod ColumnWords
 pub mod Values

@@ -3,9 +3,10 @@ use Rattle.std.specs.Prelude.{ℕ, Bool, List, map, Option}
 use Rattle.lc_sheet.specs.{Values.ValueModel, declared.{column.Column.Column, table_options.Format.{Format, TheVariants.Table}}}
 use Rattle.lc_sheet.specs.declared.table_options.Output.{Output, TheVariants.{Text, Picture}}
 
--- a section: a word that may name its lines, its columns, and for each line its values in these columns
+-- a section: a word that may name its lines, the names of columns of attributes, its columns, and for each line its values in these columns
 pub record SectionModel : Type 0 where
   pub tag : Option (List ℕ)
+  pub attributes : List (List ℕ)
   pub columns : List Column
   pub lines : List (List ValueModel)
 

@@ -1,10 +1,13 @@
 //! The columns of a sheet, with their names, their headings and the sides at which values are aligned.
 
 ghost use Rattle.std.specs.Prelude.{◌≡◌};
-ghost use Rattle.lc_sheet.specs.ColumnWords.{column_name, compared_column, compared_name, difference_name, heading, new_name, number_name, old_name};
-ghost use Rattle.lc_sheet.specs.ColumnWords.{side_of};
+ghost use Rattle.lc_sheet.specs.ColumnWords.{column_front, column_name, column_word, compared_column, compared_name, difference_name};
+ghost use Rattle.lc_sheet.specs.ColumnWords.{heading_name, number_name, plain_name, side_of};
+ghost use Rattle.lc_text.specs.Names.{name_model};
 
+use crate::attribute_column::{AttributeColumn, heading_at};
 use crate::key::Key;
+use lc_text::Name;
 
 /// One of the numbers that a row or a file has. Rows and files can be sorted by one of these numbers, largest first.
 #[derive(Debug, Clone, Copy, PartialEq, Eq)]
@@ -106,36 +109,12 @@ impl Compared {
     }
 
     /// Returns the name of the compared column, such as `eol` or `lines`.
-    pub fn name(self) -> &'static str
-        ensures { result.now ≡ compared_name self }
+    fn name(self, attributes: &[AttributeColumn]) -> &str
+        ensures { result.now ≡ compared_name attributes.entry.now self }
     {
         match self {
-            Compared::Key(key) => key.name(),
+            Compared::Key(key) => key.name(attributes),
             Compared::Number(number) => number.name(),
-        }
-    }
-
-    fn old_name(self) -> &'static str
-        ensures { result.now ≡ old_name self }
-    {
-        match self {
-            Compared::Key(key) => key.old_name(),
-            Compared::Number(Number::Files) => "old_files",
-            Compared::Number(Number::Lines) => "old_lines",
-            Compared::Number(Number::Blank) => "old_blank",
-            Compared::Number(Number::Bytes) => "old_bytes",
-        }
-    }
-
-    fn new_name(self) -> &'static str
-        ensures { result.now ≡ new_name self }
-    {
-        match self {
-            Compared::Key(key) => key.new_name(),
-            Compared::Number(Number::Files) => "new_files",
-            Compared::Number(Number::Lines) => "new_lines",
-            Compared::Number(Number::Blank) => "new_blank",
-            Compared::Number(Number::Bytes) => "new_bytes",
         }
     }
 }
@@ -151,13 +130,36 @@ fn difference_name(number: Number) -> &'static str
     }
 }
 
+/// Makes a name that is printed as this text alone.
+fn plain_name(text: &[u8]) -> Name<'_>
+    ensures { name_model result ≡ plain_name text.entry.now }
+{
+    Name {
+        front: "",
+        bytes: text,
+        end: "",
+        line: None,
+    }
+}
+
 impl Column {
-    /// Returns the name of the column in the formats that programs read.
-    pub fn name(self) -> &'static str
-        ensures { result.now ≡ column_name self }
+    /// Returns what the name of the column begins with, if the column has the value of one of two reports.
+    fn front(self) -> &'static str
+        ensures { result.now ≡ column_front self }
     {
         match self {
-            Column::Key(key) => key.name(),
+            Column::Old(_) => "old_",
+            Column::New(_) => "new_",
+            _ => "",
+        }
+    }
+
+    /// Returns the name of the column without `old_` and `new_`. The names of attributes' columns are `attributes`.
+    pub fn word(self, attributes: &[AttributeColumn]) -> &str
+        ensures { result.now ≡ column_word attributes.entry.now self }
+    {
+        match self {
+            Column::Key(key) => key.name(attributes),
             Column::Number(number) => number.name(),
             Column::Share => "share",
             Column::Bar => "bar",
@@ -171,27 +173,41 @@ impl Column {
             Column::Attribute => "attribute",
             Column::Fault => "word",
             Column::Change => "change",
-            Column::Old(compared) => compared.old_name(),
-            Column::New(compared) => compared.new_name(),
+            Column::Old(compared) | Column::New(compared) => compared.name(attributes),
             Column::Difference(number) => difference_name(number),
         }
     }
 
-    /// Returns the heading of the column in the formats that people read. A few columns have a heading that differs from their name, or
-    /// have an empty heading.
-    pub fn heading(self) -> &'static str
-        ensures { result.now ≡ heading self }
+    /// Returns the name of the column in the formats that programs read, such as `lines`, `attr:NAME` or `old_eol`.
+    pub fn name(self, attributes: &[AttributeColumn]) -> Name<'_>
+        ensures { name_model result ≡ column_name attributes.entry.now self }
     {
-        match self {
-            Column::Bar | Column::Difference(_) => "",
-            Column::Old(compared) | Column::New(compared) => compared.name(),
-            Column::Path => "file",
-            Column::Reason => "left out",
-            Column::Place => "by",
-            Column::Entry => "path",
-            Column::Fault => "fault",
-            _ => self.name(),
+        Name {
+            front: self.front(),
+            ..plain_name(self.word(attributes).as_bytes())
         }
+    }
+
+    /// Returns the heading of the column in the formats that people read. A few columns have a heading that differs from their name, or
+    /// have an empty heading. The heading of an attribute is its name.
+    pub fn heading(self, attributes: &[AttributeColumn]) -> Name<'_>
+        ensures { name_model result ≡ heading_name attributes.entry.now self }
+    {
+        let text = match self {
+            Column::Key(Key::Attribute(place))
+            | Column::Old(Compared::Key(Key::Attribute(place)))
+            | Column::New(Compared::Key(Key::Attribute(place))) => heading_at(
+                attributes, place,
+            ).as_bytes(),
+            Column::Bar | Column::Difference(_) => b"".as_slice(),
+            Column::Path => b"file".as_slice(),
+            Column::Reason => b"left out".as_slice(),
+            Column::Place => b"by".as_slice(),
+            Column::Entry => b"path".as_slice(),
+            Column::Fault => b"fault".as_slice(),
+            _ => self.word(attributes).as_bytes(),
+        };
+        plain_name(text)
     }
 
     /// Returns the side at which the values of the column are aligned.

@@ -2,13 +2,14 @@
 
 ghost use Rattle.std.specs.Prelude.{◌≡◌, false};
 ghost use Rattle.std.specs.List.{list_any};
-ghost use Rattle.lc_sheet.specs.Conditions.{comma, compares, has_text, is_on_number, meets, needs_files, number_of, test_model};
+ghost use Rattle.lc_sheet.specs.Conditions.{comma, compares, has_text, is_on_files, meets, needs_files, number_of, test_model};
 ghost use Rattle.lc_sheet.specs.Values.{value_model};
 ghost use Rattle.lc_sheet.specs.declared.value.Value.TheVariants as values;
 ghost use Rattle.lc_glob.specs.Pieces.{pieces_of};
 
 use crate::column::Column;
-use crate::value::Value;
+use crate::key::Key;
+use crate::value::{Value, flag_word};
 use lc_glob::cut_at_first;
 use lc_text::Name;
 use std::marker::Model;
@@ -44,7 +45,7 @@ pub enum Test<'w> {
 /// A condition on files, such as `eol=crlf,mixed` or `lines>1000`: a column, and a test of a file's value in the column.
 #[derive(Drop)]
 pub struct Condition<'w> {
-    /// The column: `Ext`, `Text`, `Eol`, or the number of lines, blank lines or bytes.
+    /// The column: an attribute, `Ext`, `Text`, `Eol`, or the number of lines, blank lines or bytes.
     pub column: Column,
     /// The test of a file's value in the column.
     pub test: Test<'w>,
@@ -91,6 +92,7 @@ fn has_text(value: Value<'_>, text: &[u8]) -> bool
     match value {
         Value::Missing => text == b"-".as_slice(),
         Value::Word(word) => text == word.as_bytes(),
+        Value::Flag(is_set) => text == flag_word(is_set).as_bytes(),
         Value::Name(name) => is_name(name, text),
         _ => false,
     }
@@ -135,19 +137,22 @@ impl Condition<'_> {
         }
     }
 
-    /// Returns whether the condition is on a number, such as `lines>1000`. Only a file can be tested with such a condition, because the
-    /// numbers of a row are sums over files.
-    pub fn is_on_number(&self) -> bool
-        ensures { result ≡ is_on_number self.now }
+    /// Returns whether the condition is on a number, such as `lines>1000`, or on an attribute. Only a file can be tested with such a
+    /// condition, because the numbers of a row are sums over files, and a report's own rows have no attributes but `text`.
+    pub fn is_on_files(&self) -> bool
+        ensures { result ≡ is_on_files self.now }
     {
-        matches!(self.column, Column::Number(_))
+        matches!(
+            self.column,
+            Column::Number(_) | Column::Key(Key::Attribute(_))
+        )
     }
 }
 
-/// Returns whether one of the conditions is on a number. If so, only a report that lists its files can show which files meet the
-/// conditions.
+/// Returns whether one of the conditions is on a number or on an attribute. If so, only a report that lists its files can show which files
+/// meet the conditions.
 pub fn needs_files(conditions: &[Condition<'_>]) -> bool
     ensures { result ≡ needs_files conditions.now }
 {
-    conditions.iter().any(|condition| condition.is_on_number())
+    conditions.iter().any(|condition| condition.is_on_files())
 }

@@ -1,6 +1,7 @@
 //! The sheet of a report: what every format shows of the report, as sections of lines with a value in each column. The crate also has the
 //! options of a table.
 //!
+//! - `attribute_column`: the columns of Git attributes, and their names
 //! - `key`: the keys by which rows are grouped, such as the extension
 //! - `column`: the columns of a sheet
 //! - `value`: the value of a line in a column
@@ -12,6 +13,7 @@
 //! - `condition`: conditions on files, such as `lines>1000`
 #![tactic(auto)]
 
+mod attribute_column;
 mod column;
 mod condition;
 mod form;
@@ -22,6 +24,7 @@ mod sheet;
 mod table_options;
 mod value;
 
+pub use attribute_column::{AttributeColumn, attribute_of};
 pub use column::{Column, Compared, Number, Side};
 pub use condition::{Comparison, Condition, Test, needs_files};
 pub use form::{Form, Shares};
@@ -30,4 +33,4 @@ pub use lines::Lines;
 pub use section::Section;
 pub use sheet::Sheet;
 pub use table_options::{Columns, Format, Order, Output, ReportOptions, TableOptions};
-pub use value::Value;
+pub use value::{Value, flag_word};

@@ -1,8 +1,9 @@
 //! The sections of a sheet: lines, each with a value in each column.
 
-ghost use Rattle.std.specs.Prelude.{◌≡◌, Some, None, option_map};
+ghost use Rattle.std.specs.Prelude.{◌≡◌, [], Some, None, option_map};
 ghost use Rattle.lc_sheet.specs.Sheets.{SectionModel, lines_of};
 
+use crate::attribute_column::AttributeColumn;
 use crate::column::Column;
 use crate::form::Form;
 use crate::lines::Lines;
@@ -13,6 +14,7 @@ use std::marker::Model;
 pub struct Section<'a, L: Lines> {
     tag: Option<&'static str>,
     form: Form,
+    attributes: &'a [AttributeColumn],
     columns: &'a [Column],
     lines: &'a [L::Line],
 }
@@ -25,6 +27,7 @@ impl<'a, L: Lines> Model for Section<'a, L> {
 
     ghost view = { λ s. record {
       tag = option_map (λ t. t.now) s.tag;
+      attributes = s.attributes.now;
       columns = s.columns.now;
       lines = lines_of (L.value_in s.form) s.columns.now s.lines.now;
     } };
@@ -35,6 +38,7 @@ impl<'a, L: Lines> Section<'a, L> {
     pub fn new(form: Form, columns: &'a [Column], lines: &'a [L::Line]) -> Section<'a, L>
         ensures { result ≡ record {
           tag = None;
+          attributes = [];
           columns = columns.entry.now;
           lines = lines_of (L.value_in form) columns.entry.now lines.entry.now;
         } }
@@ -42,6 +46,7 @@ impl<'a, L: Lines> Section<'a, L> {
         Section {
             tag: None,
             form,
+            attributes: &[],
             columns,
             lines,
         }
@@ -49,20 +54,26 @@ impl<'a, L: Lines> Section<'a, L> {
 
     /// Returns the section with a word that names its lines, as `file` does. Lines of fields begin with this word.
     pub fn tagged(self, tag: &'static str) -> Section<'a, L>
-        ensures { result ≡ record { tag = Some tag.now; columns = self.entry.columns; lines = self.entry.lines } }
+        ensures { result ≡ record self.entry { tag = Some tag.now } }
     {
-        let Section {
-            form,
-            columns,
-            lines,
-            ..
-        } = self;
         Section {
             tag: Some(tag),
-            form,
-            columns,
-            lines,
+            ..self
         }
+    }
+
+    /// Returns the section with the columns of the attributes that were asked for.
+    pub fn with_attributes(self, attributes: &'a [AttributeColumn]) -> Section<'a, L>
+        ensures { result ≡ record self.entry { attributes = attributes.entry.now } }
+    {
+        Section { attributes, ..self }
+    }
+
+    /// Returns the columns of the attributes that were asked for.
+    pub fn attributes(&self) -> &'a [AttributeColumn]
+        ensures { result.now ≡ self.now.attributes }
+    {
+        self.attributes
     }
 
     /// Returns the word that names the lines of the section, if there is one.

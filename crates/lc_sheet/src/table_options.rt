@@ -1,9 +1,10 @@
 //! The options of a table: its format, its columns, its order, where it is cut, and which files it shows.
 
 ghost use Rattle.std.specs.Prelude.{◌≡◌};
-ghost use Rattle.lc_sheet.specs.Keys.{are_all, has_key, with_key};
+ghost use Rattle.lc_sheet.specs.Keys.{are_all, are_of_files, has_key, with_key};
 ghost use Rattle.lc_sheet.specs.Sheets.{sheet_format};
 
+use crate::attribute_column::AttributeColumn;
 use crate::column::Number;
 use crate::condition::Condition;
 use crate::key::Key;
@@ -50,6 +51,8 @@ pub struct Columns {
     /// If rows are grouped by directory, the number of names (1 to 256) after which the path of a file's directory is cut. The path is
     /// relative to the counted directory, or begins with the name of one of several.
     pub dir: Option<u32>,
+    /// By how many of the attributes that were asked for rows are grouped. They are the first ones.
+    pub attributes: u8,
     /// Whether rows are grouped by the extension of the files' names.
     pub ext: bool,
     /// Whether rows are grouped by the state of the Git attribute `text` for the files.
@@ -62,6 +65,7 @@ impl Columns {
     /// All columns of a report's rows, so that no rows are added up.
     pub const ALL: Columns = Columns {
         dir: None,
+        attributes: 0,
         ext: true,
         text: true,
         eol: true,
@@ -70,6 +74,7 @@ impl Columns {
     /// No columns.
     pub const NONE: Columns = Columns {
         dir: None,
+        attributes: 0,
         ext: false,
         text: false,
         eol: false,
@@ -84,17 +89,28 @@ impl Columns {
                 dir: Some(depth),
                 ..self
             },
+            Key::Attribute(place) => Columns {
+                attributes: self.attributes.max(place.saturating_add(1)),
+                ..self
+            },
             Key::Ext => Columns { ext: true, ..self },
             Key::Text => Columns { text: true, ..self },
             Key::Eol => Columns { eol: true, ..self },
         }
     }
 
+    /// Returns whether rows are sums over files: whether they are grouped by directories or by attributes.
+    pub fn are_of_files(self) -> bool
+        ensures { result ≡ are_of_files self }
+    {
+        self.dir.is_some() || self.attributes > 0
+    }
+
     /// Returns whether rows are grouped by all keys of a report's rows, and by no other, so that no rows are added up.
     pub fn are_all(self) -> bool
         ensures { result ≡ are_all self }
     {
-        self.dir.is_none() && self.ext && self.text && self.eol
+        !self.are_of_files() && self.ext && self.text && self.eol
     }
 
     /// Returns whether rows are grouped by the key.
@@ -103,6 +119,7 @@ impl Columns {
     {
         match key {
             Key::Dir => self.dir.is_some(),
+            Key::Attribute(place) => place < self.attributes,
             Key::Ext => self.ext,
             Key::Text => self.text,
             Key::Eol => self.eol,
@@ -149,6 +166,8 @@ pub struct ReportOptions<'c> {
     pub table: TableOptions,
     /// The conditions on files. Only the files that meet all conditions are shown and summed.
     pub conditions: &'c [Condition<'c>],
+    /// The columns of the attributes that were asked for: those that rows are grouped by, and then those that only conditions test.
+    pub attributes: &'c [AttributeColumn],
     /// The counted directories, or the summed reports, as the command line names them. A page of HTML shows them at its top.
     pub counted: &'c [u8],
 }

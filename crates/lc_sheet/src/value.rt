@@ -1,5 +1,8 @@
 //! The values that the lines of a sheet have in its columns.
 
+ghost use Rattle.std.specs.Prelude.{◌≡◌};
+ghost use Rattle.lc_sheet.specs.Values.{flag_word};
+
 use lc_text::Name;
 
 /// The value of a line in a column. The value borrows its bytes. The bytes are escaped when the value is printed. Shares and changes are
@@ -14,6 +17,8 @@ pub enum Value<'a> {
     Blank,
     /// A word, such as `crlf`.
     Word(&'static str),
+    /// Whether a Git attribute is set. Words for reading are `set` and `unset`.
+    Flag(bool),
     /// A name, with what is printed before and after its bytes: an extension, an attribute, or the path of an entry, of a rule's file or of
     /// a directory.
     Name(Name<'a>),
@@ -27,4 +32,11 @@ pub enum Value<'a> {
     Bar { part: u128, whole: u128 },
     /// A number in the old report and in the new one. Its change from the old number to the new one is printed, such as `+1,310`.
     Difference { old: u128, new: u128 },
+}
+
+/// Returns the word for whether an attribute is set, in texts other than JSON.
+pub fn flag_word(is_set: bool) -> &'static str
+    ensures { result.now ≡ flag_word is_set }
+{
+    if is_set { "set" } else { "unset" }
 }
