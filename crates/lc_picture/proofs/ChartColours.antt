@@ -17,11 +17,14 @@ use Rattle.lc_picture.specs.{Chart.line_colour, Colours.{place_of, same_extensio
 
 -- what all rows with an extension have in common
 abbrev chart_key : Option (List ℕ) → RowKey
-chart_key e = record { directory = None; key = record { extension = e; text = Unspecified; eol = NoEnd } }
+chart_key e = record {
+  directory = None;
+  key = record { attributes = []; tally = record { extension = e; text = Unspecified; eol = NoEnd } };
+}
 
 -- whether a key is none of these
 abbrev is_other : RowKey → Bool
-is_other k = not (same_row_key (chart_key k.key.extension) k)
+is_other k = not (same_row_key (chart_key k.key.tally.extension) k)
 
 tied : (k : RowKey) → same_row_key k k ≡ true
 tied = (eq_by_cmp_equiv row_key_cmp_total).refl
@@ -31,13 +34,13 @@ no_others [] = refl
 no_others (r ∷ rs) = rw (tied (chart_key r.key.extension)) (no_others rs)
 
 own_key : (rows : List ShownRowModel) (i : ℕ) (d : ShownRowModel) → i < length rows → has_within is_other rows ≡ false
-    → row_key (get_or rows i d) ≡ chart_key (get_or rows i d).key.extension
-own_key rows i d inside none = at (same_row_key (chart_key r.key.extension) (row_key r)) refl
+    → row_key (get_or rows i d) ≡ chart_key (get_or rows i d).key.tally.extension
+own_key rows i d inside none = at (same_row_key (chart_key r.key.tally.extension) (row_key r)) refl
   where
     r : ShownRowModel
     r = get_or rows i d
 
-    at : (same : Bool) → same_row_key (chart_key r.key.extension) (row_key r) ≡ same → row_key r ≡ chart_key r.key.extension
+    at : (same : Bool) → same_row_key (chart_key r.key.tally.extension) (row_key r) ≡ same → row_key r ≡ chart_key r.key.tally.extension
     at true e = sym (tells_apart exact_row_keys _ _ e)
     at false e =
         let other : is_other (row_key r) ≡ true = ap not e in
@@ -59,12 +62,12 @@ same_is (Some a) (Some b) e = ap Some ((bytes_eq-Decides a b).0 e)
 -- rows in different places have different extensions
 other_extension : (rows : List ShownRowModel) (i j : ℕ) (d : ShownRowModel) → j < i → i < length rows
     → has_within is_other rows ≡ false → IsDistinct same_row_key (map row_key rows)
-    → same_extension (get_or rows i d).key.extension (get_or rows j d).key.extension ≡ false
+    → same_extension (get_or rows i d).key.tally.extension (get_or rows j d).key.tally.extension ≡ false
 other_extension rows i j d before inside none distinct =
-    at (same_extension (get_or rows i d).key.extension (get_or rows j d).key.extension) refl
+    at (same_extension (get_or rows i d).key.tally.extension (get_or rows j d).key.tally.extension) refl
   where
-    at : (same : Bool) → same_extension (get_or rows i d).key.extension (get_or rows j d).key.extension ≡ same
-        → same_extension (get_or rows i d).key.extension (get_or rows j d).key.extension ≡ false
+    at : (same : Bool) → same_extension (get_or rows i d).key.tally.extension (get_or rows j d).key.tally.extension ≡ same
+        → same_extension (get_or rows i d).key.tally.extension (get_or rows j d).key.tally.extension ≡ false
     at false e = e
     at true e =
         let same : row_key (get_or rows i d) ≡ row_key (get_or rows j d) =
@@ -80,8 +83,8 @@ other_extension rows i j d before inside none distinct =
 -- ---- places
 
 place_found : (e : Option (List ℕ)) (rows : List ShownRowModel) (i : ℕ) (d : ShownRowModel) → i < length rows
-    → same_extension e (get_or rows i d).key.extension ≡ true
-    → ((j : ℕ) → j < i → same_extension e (get_or rows j d).key.extension ≡ false) → place_of e rows ≡ i
+    → same_extension e (get_or rows i d).key.tally.extension ≡ true
+    → ((j : ℕ) → j < i → same_extension e (get_or rows j d).key.tally.extension ≡ false) → place_of e rows ≡ i
 place_found e [] i d inside here before = absurd (omega arith)
 place_found e (r ∷ rs) zero d inside here before = rw here refl
 place_found e (r ∷ rs) (suc i) d inside here before =
@@ -103,7 +106,7 @@ colours_law by rs fs extensions place d shown inside =
     let full : place < length extensions = omega (arith, length-take chart_rows extensions) in
     let first : place < chart_rows = omega (arith, length-take chart_rows extensions) in
     let at = λ (j : ℕ) (low : j < chart_rows). get_or-take chart_rows extensions j d low in
-    ap line_colour (place_found (get_or (take chart_rows extensions) place d).key.extension (take chart_rows extensions) place d inside
-    (same_same (get_or (take chart_rows extensions) place d).key.extension)
-    (λ j before. ap₂ (λ (a b : ShownRowModel). same_extension a.key.extension b.key.extension) (at place first) (at j (omega arith))
-    ∙ other_extension extensions place j d before full none distinct))
+    let own = (get_or (take chart_rows extensions) place d).key.tally.extension in
+    ap line_colour (place_found own (take chart_rows extensions) place d inside (same_same own)
+    (λ j before. ap₂ (λ (a b : ShownRowModel). same_extension a.key.tally.extension b.key.tally.extension) (at place first)
+    (at j (omega arith)) ∙ other_extension extensions place j d before full none distinct))

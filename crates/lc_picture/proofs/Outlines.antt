@@ -69,6 +69,7 @@ value_shows value.missing = refl
 value_shows value.summed = refl
 value_shows value.blank = refl
 value_shows (value.word w) = refl
+value_shows (value.flag is_set) = refl
 value_shows (value.name n) = refl
 value_shows (value.path p) = refl
 value_shows (value.number n) = refl

@@ -1,5 +1,5 @@
 -- A page of rows that are those of a report.
-use Rattle.std.proofs.Common.{◌≡◌, ℕ, List, Some, ap, ap₂, ◌∙◌, subst}
+use Rattle.std.proofs.Common.{◌≡◌, ℕ, List, [], Some, ap, ap₂, ◌∙◌, subst}
 use Rattle.lc_rows.specs.{RowKeys.ShownRowModel, Sheets.{listed_files, sheet_of}, ShownRows.AreShown, Views.{first_of, view_of}}
 use Rattle.lc_sheet.specs.{Sheets.SheetModel, declared.{column.Number.Number, table_options.TableOptions.TableOptions}}
 use Rattle.lc_picture.specs.{declared.scale.Scale.Scale, Boxes.BoxModel, Page.{AreBoxesOf, IsPageOf, chart_columns, chart_options}}
@@ -9,7 +9,7 @@ use Rattle.lc_level.specs.{FaultLines.FaultLineModel, Level.FileLineModel}
 
 -- the sheet of a report with some options and with all rows that it may show
 abbrev pub sheet_with : TableOptions → Report → List ShownRowModel → SheetModel
-sheet_with options r rows = sheet_of options r (view_of options.top rows (listed_files options.files r.files.items))
+sheet_with options r rows = sheet_of options [] r (view_of options.top rows (listed_files options.files r.files.items))
 
 pub page_is : (counted : List ℕ) (by : Number) (r : Report) (text : List ℕ) (rs : List TallyRowModel) (fs gs : List FileLineModel)
     (extensions es chart : List ShownRowModel) (boxes bs : List BoxModel) (options : TableOptions) (s : SheetModel) (scale : Scale)

@@ -23,7 +23,7 @@ columns_in by = row_columns (chart_options by)
 
 row_shows : (by : Number) (r : Report) (v : ViewModel) (row : ShownRowModel)
     → shown_of_line (line_of (row_value (form_in by r v)) (columns_in by) row) ≡ shown_of_row (scale_of by r.totals) row
-row_shows by r v row = ap (λ (ps : List Piece). ps ++ row_counts (scale_of by r.totals) row.sums) (extension_shows row.key.extension)
+row_shows by r v row = ap (λ (ps : List Piece). ps ++ row_counts (scale_of by r.totals) row.sums) (extension_shows row.key.tally.extension)
 
 rows_show : (by : Number) (r : Report) (v : ViewModel) (rows : List ShownRowModel)
     → flat_map shown_of_line (lines_of (row_value (form_in by r v)) (columns_in by) rows)
@@ -39,7 +39,7 @@ others_show by r v (Some s) = refl
 
 pub report_law : ReportLaw
 report_law counted by r v boxes =
-    shown_law counted (scale_of by r.totals) r.faults.items (sheet_of (chart_options by) r v) boxes
+    shown_law counted (scale_of by r.totals) r.faults.items (sheet_of (chart_options by) [] r v) boxes
     ∙ ap₂ (λ (ps qs : List Piece). (title (visible_path counted) ∷ name (visible_path counted) ∷ cell_counts r.totals)
     ++ (shown_of_faults r.faults.items ++ ((ps ++ qs) ++ shown_of_boxes (scale_of by r.totals) boxes))) (rows_show by r v v.rows)
     (others_show by r v v.others)

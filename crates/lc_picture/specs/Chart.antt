@@ -30,6 +30,7 @@ cell value.missing = name_cell (codes "-")
 cell value.summed = empty_cell
 cell value.blank = empty_cell
 cell (value.word w) = name_cell w
+cell (value.flag is_set) = name_cell (value.flag_word is_set)
 cell (value.name n) = name_cell (named visible_bytes n)
 cell (value.path p) = name_cell (visible_path p)
 cell (value.number n) = number_cell n

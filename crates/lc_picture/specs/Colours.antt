@@ -13,7 +13,7 @@ same_extension (Some a) (Some b) = bytes_eq a b
 -- the index of an extension among rows, or the number of rows if no row has it
 abbrev pub place_of : Option (List ℕ) → List ShownRowModel → ℕ
 place_of e [] = 0
-place_of e (r ∷ rs) = if same_extension e r.key.extension then 0 else place_of e rs + 1
+place_of e (r ∷ rs) = if same_extension e r.key.tally.extension then 0 else place_of e rs + 1
 
 -- the colour that all extensions share that are not among the first eight of the chart
 abbrev pub shared_colour : ℕ
@@ -38,5 +38,5 @@ main_colour chart by directory number colour [] = colour
 main_colour chart by directory number colour (k ∷ ks) =
     if bytes_eq directory (path_of k)
     then main_colour chart by directory (max number (number_in by k.sums))
-    (if nat_lt number (number_in by k.sums) then colour_of chart k.key.extension else colour) ks
+    (if nat_lt number (number_in by k.sums) then colour_of chart k.key.tally.extension else colour) ks
     else colour

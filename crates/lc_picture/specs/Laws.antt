@@ -76,6 +76,7 @@ shown_of_value value.missing = name (codes "-") ∷ []
 shown_of_value value.summed = []
 shown_of_value value.blank = []
 shown_of_value (value.word w) = name w ∷ []
+shown_of_value (value.flag is_set) = name (value.flag_word is_set) ∷ []
 shown_of_value (value.name n) = name (named visible_bytes n) ∷ []
 shown_of_value (value.path p) = name (visible_path p) ∷ []
 shown_of_value (value.number n) = count n ∷ []
@@ -135,7 +136,7 @@ row_counts scale s = cell_counts s ++ share_in scale s ∷ []
 
 -- what a row of the chart shows: the extension, the sums and the share
 abbrev pub shown_of_row : Scale → ShownRowModel → List Piece
-shown_of_row scale r = name (visible_extension r.key.extension) ∷ row_counts scale r.sums
+shown_of_row scale r = name (visible_extension r.key.tally.extension) ∷ row_counts scale r.sums
 
 abbrev pub shown_of_others : Scale → Option Sums → List Piece
 shown_of_others scale None = []
@@ -146,7 +147,7 @@ shown_of_others scale (Some s) = name (codes "others") ∷ row_counts scale s
 abbrev pub ReportLaw : Type 0
 ReportLaw =
     (counted : List ℕ) (by : Number) (r : Report) (v : ViewModel) (boxes : List BoxModel)
-    → filter is_shown (page_pieces counted (scale_of by r.totals) r.faults.items (sheet_of (chart_options by) r v) boxes)
+    → filter is_shown (page_pieces counted (scale_of by r.totals) r.faults.items (sheet_of (chart_options by) [] r v) boxes)
     ≡ (title (visible_path counted) ∷ name (visible_path counted) ∷ cell_counts r.totals)
     ++ (shown_of_faults r.faults.items
     ++ ((flat_map (shown_of_row (scale_of by r.totals)) v.rows ++ shown_of_others (scale_of by r.totals) v.others)
@@ -157,7 +158,7 @@ abbrev pub ColoursLaw : Type 0
 ColoursLaw =
     (by : Number) (rs : List TallyRowModel) (fs : List FileLineModel) (extensions : List ShownRowModel) (place : ℕ) (d : ShownRowModel)
     → AreShown chart_columns (Some by) rs fs extensions → place < length (chart_view extensions).rows
-    → colour_of (chart_view extensions).rows (slice_index_or (chart_view extensions).rows place d).key.extension ≡ line_colour place
+    → colour_of (chart_view extensions).rows (slice_index_or (chart_view extensions).rows place d).key.tally.extension ≡ line_colour place
 
 abbrev pub without_colour : BoxModel → BoxModel
 without_colour b =

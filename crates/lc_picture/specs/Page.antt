@@ -47,7 +47,7 @@ scale_of by totals = record { by = by; whole = number_in by totals }
 
 -- the columns of the chart's rows: the extension alone
 abbrev pub chart_columns : Columns
-chart_columns = record { dir = None; ext = true; text = false; eol = false }
+chart_columns = record { dir = None; attributes = 0; ext = true; text = false; eol = false }
 
 -- the greatest number of extensions that have rows of their own in the chart
 abbrev pub chart_rows : ℕ
@@ -66,11 +66,11 @@ chart_options by = record {
 
 -- the columns of the rows from which boxes of directories are made: the directory alone
 abbrev pub tree_columns : Columns
-tree_columns = record { dir = Some 1; ext = false; text = false; eol = false }
+tree_columns = record { dir = Some 1; attributes = 0; ext = false; text = false; eol = false }
 
 -- the columns of the rows that decide the colours of boxes: the directory and the extension
 abbrev pub kind_columns : Columns
-kind_columns = record { dir = Some 1; ext = true; text = false; eol = false }
+kind_columns = record { dir = Some 1; attributes = 0; ext = true; text = false; eol = false }
 
 -- the number that a picture draws: the number that is requested, or else lines
 abbrev pub drawn_number : Option Number → Number
@@ -104,5 +104,5 @@ pub record IsPageOf (counted : List ℕ) (by : Number) (r : Report) (text : List
   pub boxes : List BoxModel
   pub are_boxes : AreBoxesOf by r.totals r.files.items (chart_view extensions).rows boxes
   pub is :
-      text ≡ text_of (page_pieces counted (scale_of by r.totals) r.faults.items (sheet_of (chart_options by) r (chart_view extensions))
+      text ≡ text_of (page_pieces counted (scale_of by r.totals) r.faults.items (sheet_of (chart_options by) [] r (chart_view extensions))
       boxes)

@@ -11,7 +11,7 @@ ghost use Rattle.lc_picture.specs.Pieces.{text_of};
 use crate::escaping::{push_html, push_name, push_path};
 use crate::percents::push_percent;
 use crate::sums::{push_count, push_number};
-use lc_sheet::{Column, Form, Lines, Value};
+use lc_sheet::{Column, Form, Lines, Value, flag_word};
 use lc_text::Name;
 use std::alloc::AllocError;
 
@@ -85,6 +85,7 @@ fn push_value(text: &mut Vec<u8>, value: Value<'_>, made: &mut String) -> Result
     match value {
         Value::Missing => push_word_cell(text, b"-"),
         Value::Word(word) => push_word_cell(text, word.as_bytes()),
+        Value::Flag(is_set) => push_word_cell(text, flag_word(is_set).as_bytes()),
         Value::Name(name) => push_name_cell(text, name, made),
         Value::Path(path) => push_path_cell(text, path, made),
         Value::Number(n) => push_number_cell(text, n, made),

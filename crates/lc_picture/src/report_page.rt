@@ -156,7 +156,7 @@ fn page_by(
     let extensions = shown_rows(alloc, &report.rows, &report.files, CHART_COLUMNS, Some(by))?;
     let chart = first_rows(&extensions);
     let boxes = boxes_of(alloc, by, report.totals, &report.files, chart)?;
-    let shown = Shown::with_rows(alloc, report, &chart_options(by), extensions)?;
+    let shown = Shown::with_rows(alloc, report, &chart_options(by), &[], extensions)?;
     let text = page_text(
         alloc,
         counted,

@@ -59,7 +59,8 @@ have_both : (ws xs ys zs : List ShownRowModel) → HaveSumsOf ws xs → HaveSums
 have_both ws xs ys zs a b =
     let within : (keys : RowKey → Bool) (us vs : List ShownRowModel)
     → sums_of_shown (rows_within keys (us ++ vs)) ≡ plus (sums_of_shown (rows_within keys us)) (sums_of_shown (rows_within keys vs)) =
-    λ keys us vs. ap sums_of_shown (filter-append (λ r. keys (row_key r)) us vs) ∙ sums_of_both (rows_within keys us) (rows_within keys vs) in
+    λ keys us vs. ap sums_of_shown (filter-append (λ r. keys (row_key r)) us vs)
+    ∙ sums_of_both (rows_within keys us) (rows_within keys vs) in
     record {
       sums = λ keys. within keys xs zs ∙ ap₂ plus (a.sums keys) (b.sums keys) ∙ sym (within keys ws ys);
       present = λ keys. list_any-append (λ r. keys (row_key r)) xs zs ∙ ap₂ (λ c d. c || d) (a.present keys) (b.present keys)
@@ -191,8 +192,9 @@ pub raised_first : (n : ℕ) (rows : List ShownRowModel) → IsNonDecreasingBy (
 raised_first n rows order = record { same = have_same (flat_map (level_parts n) rows); low = below_all n rows; order = order }
 
 -- one level more: the raised rows and some others are added up, and what they add to the next level is raised
-module _ (n : ℕ) (rows all raised rest parts others level above : List ShownRowModel) (left : ℕ) (was : IsRaised n rows all raised rest left)
-    (apart : parts ++ others ≡ raised ++ rest) (added : AreAddedUp parts level) (next : AreAddedUp (flat_map (next_above n) level) above) where
+module _ (n : ℕ) (rows all raised rest parts others level above : List ShownRowModel) (left : ℕ)
+    (was : IsRaised n rows all raised rest left) (apart : parts ++ others ≡ raised ++ rest) (added : AreAddedUp parts level)
+    (next : AreAddedUp (flat_map (next_above n) level) above) where
   abbrev with_above : List ShownRowModel → List ShownRowModel
   with_above rs = flat_map (level_parts n) rs
 

@@ -4,9 +4,10 @@ use Rattle.std.proofs.{Common.arith, lemmas.List.Sums.{sum_by-append, sum_by-con
 use Rattle.std.specs.{List.{filter, range_with_len, sum_by}, Prelude.bytes_eq}
 use Rattle.lc_sheet.specs.declared.table_options.Columns.{Columns}
 use Rattle.lc_walk.proofs.{Filtered.{part, sum_by-filter}, RowSums.same_sums}
-use Rattle.lc_walk.specs.{Key.{Key, same_key}, Sums.{one_file, plus}, declared.tally.sums.Sums.Sums}
+use Rattle.lc_walk.specs.{Sums.{one_file, plus}, declared.tally.sums.Sums.Sums}
 use Rattle.lc_rows.specs.{Directories.{above, directory_of, level_of}, Laws.{ChildrenLaw, sums_of_lines}, RowKeys.{RowKey, ShownRowModel}}
-use Rattle.lc_rows.specs.{RowKeys.{row_key, rows_within, same_row_key, sums_of_shown}, ShownRows.{file_key, key_in, part_of_file}}
+use Rattle.lc_rows.specs.RowKeys.{FileKey, row_key, rows_within, same_file_key, same_row_key, sums_of_shown}
+use Rattle.lc_rows.specs.ShownRows.{file_key, key_in, part_of_file}
 use Rattle.lc_rows.specs.TreeRows.{is_child, is_in, levels_above, parts_above, tree_parts}
 use Rattle.lc_rows.proofs.{Folding.{alike_permuted, alike_sums}, Levels.{above_at, capped, level_at}, TreeLaw.{key_parts, one_more}}
 use Rattle.lc_level.specs.Level.{FileLineModel}
@@ -29,7 +30,7 @@ child_some : (d e : List ℕ) → 0 < level_of e → is_child d (Some e) ≡ byt
 child_some d [] deep = absurd (omega arith)
 child_some d (b ∷ bs) deep = refl
 
-module _ (cut : ℕ) (by : Columns) (d : List ℕ) (k : Key) where
+module _ (cut : ℕ) (by : Columns) (d : List ℕ) (k : FileKey) where
   abbrev wanted : RowKey
   wanted = record { directory = Some d; key = k }
 
@@ -37,22 +38,23 @@ module _ (cut : ℕ) (by : Columns) (d : List ℕ) (k : Key) where
   adds v = part (λ (r : ShownRowModel). same_row_key wanted (row_key r)) (λ (r : ShownRowModel). v r.sums)
 
   abbrev of_child : RowKey → Bool
-  of_child key = is_child d key.directory && same_key k key.key
+  of_child key = is_child d key.directory && same_file_key k key.key
 
   abbrev child_adds : (Sums → ℕ) → ShownRowModel → ℕ
   child_adds v = part (λ (r : ShownRowModel). of_child (row_key r)) (λ (r : ShownRowModel). v r.sums)
 
   abbrev owned : FileLineModel → Bool
-  owned f = is_in cut d f.path && same_key k (key_in by (file_key f))
+  owned f = is_in cut d f.path && same_file_key k (key_in by (file_key f))
 
   abbrev gain : (Sums → ℕ) → FileLineModel → Bool → ℕ
-  gain v f b = cond (b && same_key k (key_in by (file_key f))) (v (one_file f.count)) 0
+  gain v f b = cond (b && same_file_key k (key_in by (file_key f))) (v (one_file f.count)) 0
 
-  file_adds : (v : Sums → ℕ) (f : FileLineModel) (n : ℕ) → adds v (part_of_file by n f) ≡ gain v f (bytes_eq d (directory_of n f.path))
+  file_adds : (v : Sums → ℕ) (f : FileLineModel) (n : ℕ)
+      → adds v (part_of_file by (Some n) f) ≡ gain v f (bytes_eq d (directory_of n f.path))
   file_adds v f n = ap (λ b. cond b (v (one_file f.count)) 0) (key_parts d (directory_of n f.path) k (key_in by (file_key f)))
 
   child_adds_next : (v : Sums → ℕ) (f : FileLineModel) (j : ℕ) → suc j ≤ levels_above cut f.path
-      → child_adds v (part_of_file by (suc j) f) ≡ adds v (part_of_file by j f)
+      → child_adds v (part_of_file by (Some (suc j)) f) ≡ adds v (part_of_file by (Some j) f)
   child_adds_next v f j within =
       let deep = level_at f.path (suc j) in
       ap (gain v f) (child_some d (directory_of (suc j) f.path) (omega arith) ∙ ap (bytes_eq d) (above_at f.path j (omega arith)))
@@ -63,13 +65,13 @@ module _ (cut : ℕ) (by : Columns) (d : List ℕ) (k : Key) where
   file_sum v f =
       let last : ℕ = levels_above cut f.path in
       let many : suc last ≡ last + 1 = omega arith in
-      let own : adds v (part_of_file by last f) ≡ gain v f (is_in cut d f.path) =
+      let own : adds v (part_of_file by (Some last) f) ≡ gain v f (is_in cut d f.path) =
       file_adds v f last ∙ ap (λ p. gain v f (bytes_eq d p)) (sym (capped f.path cut)) in
-      subst (λ n. sum_by (adds v) (map (λ i. part_of_file by i f) (range_with_len 0 n))
-      ≡ gain v f (is_in cut d f.path) + sum_by (child_adds v) (map (λ i. part_of_file by i f) (range_with_len 0 n))) many
-      (last_missing (adds v) (child_adds v) (λ i. part_of_file by i f) refl last
+      subst (λ n. sum_by (adds v) (map (λ i. part_of_file by (Some i) f) (range_with_len 0 n))
+      ≡ gain v f (is_in cut d f.path) + sum_by (child_adds v) (map (λ i. part_of_file by (Some i) f) (range_with_len 0 n))) many
+      (last_missing (adds v) (child_adds v) (λ i. part_of_file by (Some i) f) refl last
       (λ j lt. child_adds_next v f j (omega arith))
-      ∙ ap (λ n. n + sum_by (child_adds v) (map (λ i. part_of_file by i f) (range_with_len 0 (suc last)))) own)
+      ∙ ap (λ n. n + sum_by (child_adds v) (map (λ i. part_of_file by (Some i) f) (range_with_len 0 (suc last)))) own)
 
   files_sum : (v : Sums → ℕ) (fs : List FileLineModel)
       → sum_by (adds v) (tree_parts cut by fs)
@@ -108,7 +110,7 @@ pub children_law : ChildrenLaw
 children_law n by fs rows d k h =
     let moved = alike_permuted h.0 rows h.2 in
     let keys : RowKey → Bool = same_row_key (record { directory = Some d; key = k }) in
-    let children : RowKey → Bool = λ key. is_child d key.directory && same_key k key.key in
+    let children : RowKey → Bool = λ key. is_child d key.directory && same_file_key k key.key in
     alike_sums h.0 rows moved keys ∙ h.1.sums keys ∙ parts_sums n by d k fs
-    ∙ ap (plus (sums_of_lines (filter (λ f. is_in n d f.path && same_key k (key_in by (file_key f))) fs)))
+    ∙ ap (plus (sums_of_lines (filter (λ f. is_in n d f.path && same_file_key k (key_in by (file_key f))) fs)))
     (sym (alike_sums h.0 rows moved children ∙ h.1.sums children))

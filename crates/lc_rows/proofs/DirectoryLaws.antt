@@ -1,35 +1,47 @@
 -- What is true of the rows of directories.
-use Rattle.std.proofs.Common.{◌≡◌, ℕ, Bool, true, false, cond, ◌||◌, List, [], ◌∷◌, map, length, get_or, suc, refl, sym, ◌∙◌, ap, arith}
+use Rattle.std.proofs.Common.{◌≡◌, ℕ, Bool, true, false, cond, ◌&&◌, ◌||◌, not, List, [], ◌∷◌, map, length, get_or, suc, refl, sym, ◌∙◌, ap}
+use Rattle.std.proofs.Common.{arith, subst}
 use Rattle.std.proofs.lemmas.Cmp.{tied_itself}
 use Rattle.std.proofs.lemmas.List.{get_or-map, length-map, Folds.list_any_at, Sorted.sum_by-IsPermutation, Sums.length-filter}
-use Rattle.std.specs.{List.{AllByRecursion, filter, list_any, sum_by, Sorted.{IsPermutation, IsStrictlySortedBy}}, Ordering.is_eq}
+use Rattle.std.specs.{Bool.MatchBool, List.{AllByRecursion, filter, list_any, sum_by, Sorted.{IsPermutation, IsStrictlySortedBy}}}
+use Rattle.std.specs.Ordering.{is_eq}
 use Rattle.std.specs.declared.cmp.Ordering.TheVariants.{Less, Equal}
-use Rattle.lc_sheet.specs.declared.table_options.Columns.{Columns}
+use Rattle.lc_sheet.specs.{Keys.are_of_files, declared.table_options.Columns.Columns}
 use Rattle.lc_walk.proofs.{Filtered.{part, sum_by-filter}, Keys.equal_if, ReportTotals.sum_by-map, RowSums.same_sums}
-use Rattle.lc_walk.specs.{Sums.one_file, declared.tally.sums.Sums.Sums}
+use Rattle.lc_walk.specs.{Sums.one_file, TallyRows.TallyRowModel, declared.tally.sums.Sums.Sums}
 use Rattle.lc_rows.specs.{Laws.{DirectoriesLaw, OneRowLaw, file_row_key, sums_of_lines}, RowKeys.{RowKey, ShownRowModel, AreInRowOrder}}
-use Rattle.lc_rows.specs.{RowKeys.{has_within, row_key, row_key_cmp, rows_within, same_row_key, sums_of_shown}, ShownRows.part_of_file}
+use Rattle.lc_rows.specs.RowKeys.{has_within, row_key, row_key_cmp, rows_within, same_row_key, sums_of_shown}
+use Rattle.lc_rows.specs.ShownRows.{AreAddedUp, AreSummed}
+use Rattle.lc_rows.specs.ShownRows.{part_of_file, parts_in}
 use Rattle.lc_rows.proofs.{Folding.{alike_permuted, alike_sums}, RowLaws.moved, SameKeys.row_key_cmp_total}
 use Rattle.lc_level.specs.Level.{FileLineModel}
 
 -- the sums over the parts of a set of keys are those over their files
-file_sums : (n : ℕ) (by : Columns) (keys : RowKey → Bool) (fs : List FileLineModel)
-    → sums_of_shown (rows_within keys (map (part_of_file by n) fs)) ≡ sums_of_lines (filter (λ f. keys (file_row_key n by f)) fs)
-file_sums n by keys fs =
+file_sums : (by : Columns) (keys : RowKey → Bool) (fs : List FileLineModel)
+    → sums_of_shown (rows_within keys (map (part_of_file by by.dir) fs)) ≡ sums_of_lines (filter (λ f. keys (file_row_key by f)) fs)
+file_sums by keys fs =
     let p : ShownRowModel → Bool = λ r. keys (row_key r) in
-    let q : FileLineModel → Bool = λ f. keys (file_row_key n by f) in
-    let one : (v : Sums → ℕ) → sum_by (λ (r : ShownRowModel). v r.sums) (filter p (map (part_of_file by n) fs))
+    let q : FileLineModel → Bool = λ f. keys (file_row_key by f) in
+    let one : (v : Sums → ℕ) → sum_by (λ (r : ShownRowModel). v r.sums) (filter p (map (part_of_file by by.dir) fs))
     ≡ sum_by (λ (f : FileLineModel). v (one_file f.count)) (filter q fs) =
-    λ v. sum_by-filter p (λ (r : ShownRowModel). v r.sums) (map (part_of_file by n) fs)
-    ∙ sum_by-map (part p (λ (r : ShownRowModel). v r.sums)) (part_of_file by n) fs
+    λ v. sum_by-filter p (λ (r : ShownRowModel). v r.sums) (map (part_of_file by by.dir) fs)
+    ∙ sum_by-map (part p (λ (r : ShownRowModel). v r.sums)) (part_of_file by by.dir) fs
     ∙ sym (sum_by-filter q (λ (f : FileLineModel). v (one_file f.count)) fs) in
     same_sums _ _ (one (λ s. s.files)) (one (λ s. s.lines)) (one (λ s. s.blank)) (one (λ s. s.bytes))
 
+-- rows by directories or attributes are added up from files
+of_files : (by : Columns) (rs : List TallyRowModel) (fs : List FileLineModel) (summed : List ShownRowModel) → are_of_files by ≡ true
+    → AreSummed by rs fs summed → AreAddedUp (map (part_of_file by by.dir) fs) summed
+of_files by rs fs summed e are =
+    subst (λ b. MatchBool (not b && by.ext && by.text && by.eol) (summed ≡ parts_in b by rs fs) (AreAddedUp (parts_in b by rs fs) summed))
+    e are
+
 -- the rows of a directory and a key have the sums over its files
 pub directories_law : DirectoriesLaw
-directories_law n by sort rs fs shown k h =
-    alike_sums h.0 shown (alike_permuted h.0 shown (moved sort h.0 shown h.2)) (same_row_key k) ∙ h.1.sums (same_row_key k)
-    ∙ file_sums n by (same_row_key k) fs
+directories_law by sort rs fs shown k e h =
+    let added = of_files by rs fs h.0 e h.1 in
+    alike_sums h.0 shown (alike_permuted h.0 shown (moved sort h.0 shown h.2)) (same_row_key k) ∙ added.sums (same_row_key k)
+    ∙ file_sums by (same_row_key k) fs
 
 -- no row after the one of a key has this key
 none_after : (k x : RowKey) (rows : List ShownRowModel) → row_key_cmp k x ≡ Equal
@@ -62,15 +74,16 @@ moved_many p xs ys h = length-filter p ys ∙ sum_by-IsPermutation (part p (λ _
 
 -- each file is in exactly one row
 pub one_row_law : OneRowLaw
-one_row_law n by sort rs fs shown h = λ i d within.
-    let k : RowKey = file_row_key n by (get_or fs i d) in
-    let made : ShownRowModel = part_of_file by n d in
-    let read : get_or (map (part_of_file by n) fs) i made ≡ part_of_file by n (get_or fs i d)
-    = get_or-map (part_of_file by n) fs i d made within in
-    let own : same_row_key k (row_key (get_or (map (part_of_file by n) fs) i made)) ≡ true =
+one_row_law by sort rs fs shown e h = λ i d within.
+    let added = of_files by rs fs h.0 e h.1 in
+    let k : RowKey = file_row_key by (get_or fs i d) in
+    let made : ShownRowModel = part_of_file by by.dir d in
+    let read : get_or (map (part_of_file by by.dir) fs) i made ≡ part_of_file by by.dir (get_or fs i d)
+    = get_or-map (part_of_file by by.dir) fs i d made within in
+    let own : same_row_key k (row_key (get_or (map (part_of_file by by.dir) fs) i made)) ≡ true =
     ap (λ (r : ShownRowModel). same_row_key k (row_key r)) read ∙ ap is_eq (tied_itself row_key_cmp_total k) in
-    let some : has_within (same_row_key k) (map (part_of_file by n) fs) ≡ true =
-    list_any_at (λ (r : ShownRowModel). same_row_key k (row_key r)) (map (part_of_file by n) fs) i made
-    (omega (arith, length-map fs (part_of_file by n))) own in
+    let some : has_within (same_row_key k) (map (part_of_file by by.dir) fs) ≡ true =
+    list_any_at (λ (r : ShownRowModel). same_row_key k (row_key r)) (map (part_of_file by by.dir) fs) i made
+    (omega (arith, length-map fs (part_of_file by by.dir))) own in
     moved_many (λ (r : ShownRowModel). same_row_key k (row_key r)) h.0 shown (moved sort h.0 shown h.2)
-    ∙ single k h.0 h.1.order (h.1.present (same_row_key k) ∙ some)
+    ∙ single k h.0 added.order (added.present (same_row_key k) ∙ some)

@@ -4,7 +4,7 @@ use Rattle.std.proofs.{Common.{if◌then◌else◌, subst, arith}, Math.Path.fun
 use Rattle.std.proofs.lemmas.List.{Filters.{length-filter_both, sum_by-filter_both}, Sorted.{length_permutation, list_any-IsPermutation}}
 use Rattle.std.specs.{Bool.MatchBool, List.{list_all, list_any, sum_by, Sorted.IsPermutation}}
 use Rattle.lc_sheet.specs.declared.condition.Comparison.{Comparison, TheVariants.{Less, AtMost, Equal, Unequal, AtLeast, Greater}}
-use Rattle.lc_sheet.specs.{declared.column.Column.Column, Conditions.{ConditionModel, TestModel, compared, compares, is_on_number, meets}}
+use Rattle.lc_sheet.specs.{declared.column.Column.Column, Conditions.{ConditionModel, TestModel, compared, compares, is_on_files, meets}}
 use Rattle.lc_sheet.specs.{Conditions.{needs_files, none_of, one_of}, Values.ValueModel}
 use Rattle.lc_level.specs.Level.{FileLineModel}
 use Rattle.lc_walk.specs.{ReportTotals.counted_line, Sums.plus, Tally.{CountedFile, IsTally, sums_of_files}, TallyRows.TallyRowModel}
@@ -39,7 +39,7 @@ module _ (cs ds : List ConditionModel) (same : IsPermutation cs ds) where
   same_rows = fun_ext (λ r. same_test (value_of_row r))
 
   same_need : needs_files cs ≡ needs_files ds
-  same_need = list_any-IsPermutation is_on_number cs ds same
+  same_need = list_any-IsPermutation is_on_files cs ds same
 
   rows_permuted : (r part : Report) → AreKeptRows (needs_files cs) cs r part.files.items part.rows.items
       → AreKeptRows (needs_files ds) ds r part.files.items part.rows.items
@@ -138,7 +138,7 @@ totals_at false cs r part need is =
     ∙ ap sums_of_rows (subst (λ (b : Bool). MatchBool b (IsTally (map counted_line part.files.items) part.rows.items)
     (part.rows.items ≡ filter (row_meets cs) r.rows.items)) need is.rows))
 
-parts_add_up : (b : Bool) (c : ConditionModel) (r x y : Report) → is_on_number c ≡ b → r.totals ≡ tested_sums b r
+parts_add_up : (b : Bool) (c : ConditionModel) (r x y : Report) → is_on_files c ≡ b → r.totals ≡ tested_sums b r
     → IsPart (c ∷ []) r x → IsPart (opposite c ∷ []) r y → plus x.totals y.totals ≡ r.totals
 parts_add_up true c r x y on has is_x is_y =
     ap₂ plus (totals_at true (c ∷ []) r x (or_false _ ∙ on) is_x) (totals_at true (opposite c ∷ []) r y (or_false _ ∙ on) is_y)
@@ -148,4 +148,4 @@ parts_add_up false c r x y on has is_x is_y =
     ∙ (rows_add_up c r.rows.items ∙ sym has)
 
 pub opposites_law : OppositesLaw
-opposites_law c r has x y is_x is_y = parts_add_up (is_on_number c) c r x y refl has is_x is_y
+opposites_law c r has x y is_x is_y = parts_add_up (is_on_files c) c r x y refl has is_x is_y

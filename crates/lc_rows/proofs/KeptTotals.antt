@@ -3,7 +3,7 @@ use Rattle.std.proofs.Common.{◌≡◌, ◌∙◌, ◌<◌, ℕ, Bool, true, fa
 use Rattle.std.proofs.{Math.Path.fun_ext, lemmas.{Bool.or_parts, List.{Elements.All-filter, Kept.IsStrictlySortedBy-filter}}}
 use Rattle.std.specs.List.Sorted.{IsStrictlySortedBy}
 use Rattle.lc_level.specs.Level.{FileLineModel}
-use Rattle.lc_sheet.specs.Conditions.{ConditionModel, TestModel, compared, is_number, is_on_number, meets, needs_files, none_of, one_of}
+use Rattle.lc_sheet.specs.Conditions.{ConditionModel, TestModel, compared, is_of_files, is_on_files, meets, needs_files, none_of, one_of}
 use Rattle.lc_sheet.specs.{Values.{ValueModel, blank, path}, declared.column.Column.Column}
 use Rattle.lc_walk.proofs.{Classes.both_are_all, Keys.{equal_if, exact_keys}, ReportTotals.{filter-map, tally_sums}}
 use Rattle.lc_walk.specs.{Key.{Key, key_cmp, same_key}, ReportTotals.{TotalsAddUp, counted_line}, Sums.{no_files, plus}, Tally.CountedFile}
@@ -61,7 +61,7 @@ module _ (t : Key → Bool) where
         (IsStrictlySortedBy-filter key_cmp t (map (λ (r : TallyRowModel). r.key) rs) is.order);
   }
 
--- ---- conditions that are not on numbers see keys alone
+-- ---- conditions that are not on what files alone have see keys alone
 
 -- a row of a key
 abbrev row_at : Key → TallyRowModel
@@ -72,26 +72,28 @@ path_meets (one_of texts) p = refl
 path_meets (none_of texts) p = refl
 path_meets (compared comparison n) p = refl
 
-file_at : (f : FileLineModel) (t : TestModel) (c : Column) → is_number c ≡ false
+file_at : (f : FileLineModel) (t : TestModel) (c : Column) → is_of_files c ≡ false
     → meets t (value_of_file f c) ≡ meets t (value_of_row (row_at (key_of (counted_line f))) c)
 file_at f t (column.Number n) e = cc
 file_at f t (column.Key key.Dir) e = refl
+file_at f t (column.Key (key.Attribute place)) e = cc
 file_at f t (column.Key key.Ext) e = refl
 file_at f t (column.Key key.Text) e = refl
 file_at f t (column.Key key.Eol) e = refl
 file_at f t column.Path e = path_meets t f.path
 file_at f t other e = refl
 
-row_at_key : (r : TallyRowModel) (t : TestModel) (c : Column) → is_number c ≡ false
+row_at_key : (r : TallyRowModel) (t : TestModel) (c : Column) → is_of_files c ≡ false
     → meets t (value_of_row r c) ≡ meets t (value_of_row (row_at r.key) c)
 row_at_key r t (column.Number n) e = cc
+row_at_key r t (column.Key (key.Attribute place)) e = cc
 row_at_key r t other e = refl
 
-holds_alike : (p q : Column → ValueModel) → ((t : TestModel) (c : Column) → is_number c ≡ false → meets t (p c) ≡ meets t (q c))
+holds_alike : (p q : Column → ValueModel) → ((t : TestModel) (c : Column) → is_of_files c ≡ false → meets t (p c) ≡ meets t (q c))
     → (cs : List ConditionModel) → needs_files cs ≡ false → holds_all p cs ≡ holds_all q cs
 holds_alike p q alike [] none = refl
 holds_alike p q alike (c ∷ cs) none =
-    let parts = or_parts (is_on_number c) (needs_files cs) none in
+    let parts = or_parts (is_on_files c) (needs_files cs) none in
     ap₂ (λ a b. a && b) (alike c.test c.column parts.0) (holds_alike p q alike cs parts.1)
 
 module _ (cs : List ConditionModel) (none : needs_files cs ≡ false) where

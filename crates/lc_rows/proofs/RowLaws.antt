@@ -7,8 +7,8 @@ use Rattle.lc_sheet.specs.declared.{table_options.Columns.Columns, column.Number
 use Rattle.lc_walk.proofs.{ReportTotals.sum_by-map, RowSums.same_sums}
 use Rattle.lc_walk.specs.{Key.{Key, key_cmp}, Sums.one_file, TallyRows.{TallyRowModel, IsInOrder}, declared.tally.sums.Sums.Sums}
 use Rattle.lc_rows.specs.{Laws.{PermutationLaw, TotalsLaw, WholeLaw, totals_of}, RowKeys.{RowKey, ShownRowModel, row_key}}
-use Rattle.lc_sheet.specs.Keys.{are_all}
-use Rattle.lc_rows.specs.{RowKeys.{row_key_cmp, rows_within, sums_of_shown}, ShownRows.{AreAddedUp, AreSorted, part_of_file}}
+use Rattle.lc_sheet.specs.Keys.{are_all, are_of_files}
+use Rattle.lc_rows.specs.{RowKeys.{file_key_cmp, row_key_cmp, rows_within, sums_of_shown}, ShownRows.{AreAddedUp, AreSorted, part_of_file}}
 use Rattle.lc_rows.specs.ShownRows.{part_of_row, parts_in, parts_of}
 use Rattle.lc_level.specs.Level.{FileLineModel}
 use Rattle.lc_walk.specs.AllColumns.{all_columns}
@@ -23,16 +23,16 @@ pub permutation_law : PermutationLaw
 permutation_law by sort rs fs shown h = (h.0, h.1, moved sort h.0 shown h.2)
 
 -- what the parts add up to in all
-parts_totals : (dir : Option ℕ) (by : Columns) (rs : List TallyRowModel) (fs : List FileLineModel)
-    → sums_of_shown (parts_in dir by rs fs) ≡ totals_of dir rs fs
-parts_totals None by rs fs =
+parts_totals : (of_files : Bool) (by : Columns) (rs : List TallyRowModel) (fs : List FileLineModel)
+    → sums_of_shown (parts_in of_files by rs fs) ≡ totals_of of_files rs fs
+parts_totals false by rs fs =
     let one : (v : Sums → ℕ) → sum_by (λ (r : ShownRowModel). v r.sums) (map (part_of_row by) rs)
     ≡ sum_by (λ (r : TallyRowModel). v r.sums) rs = λ v. sum_by-map (λ (r : ShownRowModel). v r.sums) (part_of_row by) rs in
     same_sums _ _ (one (λ s. s.files)) (one (λ s. s.lines)) (one (λ s. s.blank)) (one (λ s. s.bytes))
-parts_totals (Some n) by rs fs =
-    let one : (v : Sums → ℕ) → sum_by (λ (r : ShownRowModel). v r.sums) (map (part_of_file by n) fs)
+parts_totals true by rs fs =
+    let one : (v : Sums → ℕ) → sum_by (λ (r : ShownRowModel). v r.sums) (map (part_of_file by by.dir) fs)
     ≡ sum_by (λ (f : FileLineModel). v (one_file f.count)) fs =
-    λ v. sum_by-map (λ (r : ShownRowModel). v r.sums) (part_of_file by n) fs in
+    λ v. sum_by-map (λ (r : ShownRowModel). v r.sums) (part_of_file by by.dir) fs in
     same_sums _ _ (one (λ s. s.files)) (one (λ s. s.lines)) (one (λ s. s.blank)) (one (λ s. s.bytes))
 
 -- all rows are within all keys
@@ -60,13 +60,13 @@ moved_totals xs ys h =
 pub totals_law : TotalsLaw
 totals_law by sort rs fs shown h =
     moved_totals h.0 shown (moved sort h.0 shown h.2) ∙ summed_totals (are_all by) (parts_of by rs fs) h.0 h.1
-    ∙ parts_totals by.dir by rs fs
+    ∙ parts_totals (are_of_files by) by rs fs
 
 -- keys of all columns rise as the keys of the report's rows do
 rows_above : (k : Key) (rs : List TallyRowModel) → AllByRecursion (λ y. key_cmp k y ≡ Less) (map (λ (r : TallyRowModel). r.key) rs)
-    → AllByRecursion (λ (y : RowKey). row_key_cmp (record { directory = None; key = k }) y ≡ Less)
+    → AllByRecursion (λ (y : RowKey). row_key_cmp (record { directory = None; key = record { attributes = []; tally = k } }) y ≡ Less)
     (map row_key (map (part_of_row all_columns) rs))
-unfolding row_key_cmp
+unfolding row_key_cmp file_key_cmp
 rows_above k [] all = tt
 rows_above k (r ∷ rs) all = (all.0, rows_above k rs all.1)
 

@@ -5,7 +5,7 @@ use Rattle.std.specs.Prelude.{unwrap_or}
 use Rattle.lc_sheet.specs.{Sheets.{SectionModel, SheetModel, line_of, lines_of, sheet_format}, declared.form.Form.Form}
 use Rattle.lc_sheet.specs.declared.table_options.Format.{Format, TheVariants.{Tsv, Table, Json, Csv, Markdown}}
 use Rattle.lc_rows.specs.{Kinds.file_value, SheetColumns.file_columns, SheetLaws.{SheetFilesLaw, path_at}, Sheets.{form_of, list_of}}
-use Rattle.lc_rows.specs.{Sheets.{listed_files, section_of}, Views.{first_of, view_of}}
+use Rattle.lc_rows.specs.{Sheets.{listed_files, section_of, with_attributes}, Views.{first_of, view_of}}
 use Rattle.lc_level.specs.Level.{FileLineModel}
 
 -- the path of a file's line, in each format
@@ -24,21 +24,23 @@ paths_of_lines format form [] = refl
 paths_of_lines format form (f ∷ fs) = ap₂ (λ p ps. p ∷ ps) (path_of_line format form f) (paths_of_lines format form fs)
 
 -- a section of files is there only where files are listed
-paths_listed : (listed : Bool) (format : Format) (form : Form) (top : Option ℕ) (fs : List FileLineModel) (section : SectionModel)
-    → (if listed then Some (list_of (codes "file") (section_of (file_value form) (file_columns format form.by)
-    (first_of top (listed_files listed fs)))) else None)
+paths_listed : (attributes : List (List ℕ)) (listed : Bool) (format : Format) (form : Form) (top : Option ℕ) (fs : List FileLineModel)
+    (section : SectionModel)
+    → (if listed then Some (list_of (codes "file") (with_attributes attributes (section_of (file_value form) (file_columns format form.by)
+    (first_of top (listed_files listed fs))))) else None)
     ≡ Some section
     → map (path_at section.columns) section.lines ≡ map (λ (f : FileLineModel). f.path) (first_of top fs)
-paths_listed true format form top fs section is =
+paths_listed attributes true format form top fs section is =
     subst (λ (s : SectionModel). map (path_at s.columns) s.lines ≡ map (λ (f : FileLineModel). f.path) (first_of top fs))
     (ap (λ (o : Option SectionModel). unwrap_or o section) is) (paths_of_lines format form (first_of top fs))
-paths_listed false format form top fs section is = absurd (cc is)
+paths_listed attributes false format form top fs section is = absurd (cc is)
 
 pub sheet_files_law : SheetFilesLaw
-sheet_files_law options r s section sheet there =
+sheet_files_law options attributes r s section sheet there =
     let view = view_of options.top sheet.has.rows (listed_files options.files sheet.files) in (
       sheet.files,
       sheet.are_files,
-      paths_listed options.files (sheet_format options.output) (form_of options r.totals view.rows) options.top sheet.files section
+      paths_listed attributes options.files (sheet_format options.output) (form_of options r.totals view.rows) options.top sheet.files
+          section
           (sym (ap (λ (t : SheetModel). t.files) sheet.has.is) ∙ there),
     )

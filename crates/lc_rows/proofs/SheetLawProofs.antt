@@ -2,7 +2,7 @@
 use Rattle.std.proofs.Common.{◌≡◌, ℕ, ◌+◌, Bool, true, false, List, [], ◌∷◌, ◌++◌, map, Option, Some, None, refl, sym, ap, ap₂, ◌∙◌}
 use Rattle.std.proofs.{Common.{subst, arith, codes, if◌then◌else◌}, lemmas.List.{Sums.sum_by-cons, Sorted.sum_by-IsPermutation}}
 use Rattle.std.specs.Prelude.{unwrap_or}
-use Rattle.lc_sheet.specs.{Sheets.{SheetModel, line_of, lines_of, sheet_format}, Values.ValueModel}
+use Rattle.lc_sheet.specs.{Keys.are_of_files, Sheets.{SheetModel, line_of, lines_of, sheet_format}, Values.ValueModel}
 use Rattle.lc_sheet.specs.declared.{column.{Column.Column, Number.{Number, TheVariants.{Files, Lines, Blank, Bytes}}}, form.Form.Form}
 use Rattle.lc_sheet.specs.declared.table_options.Format.{Format, TheVariants.{Tsv, Table, Json, Csv, Markdown}}
 use Rattle.lc_sheet.specs.declared.table_options.TableOptions.{TableOptions}
@@ -173,10 +173,10 @@ abbrev pub binary_line : ClassSums → NamedSumsModel
 binary_line classes = record { name = codes "binary"; sums = classes.binary }
 
 -- sorted files have the same totals
-pub sorted_totals : (dir : Option ℕ) (sort : Option Number) (rs : List TallyRowModel) (fs sorted : List FileLineModel)
-    → AreFilesSorted sort fs sorted → totals_of dir rs sorted ≡ totals_of dir rs fs
-sorted_totals None sort rs fs sorted are = refl
-sorted_totals (Some k) sort rs fs sorted are =
+pub sorted_totals : (of_files : Bool) (sort : Option Number) (rs : List TallyRowModel) (fs sorted : List FileLineModel)
+    → AreFilesSorted sort fs sorted → totals_of of_files rs sorted ≡ totals_of of_files rs fs
+sorted_totals false sort rs fs sorted are = refl
+sorted_totals true sort rs fs sorted are =
     let h = sorted_files_law sort fs sorted are in
     same_sums _ _ (sum_by-IsPermutation (λ (f : FileLineModel). (one_file f.count).files) fs sorted h)
     (sum_by-IsPermutation (λ (f : FileLineModel). (one_file f.count).lines) fs sorted h)
@@ -186,7 +186,7 @@ sorted_totals (Some k) sort rs fs sorted are =
 -- ---- the laws
 
 pub sheet_totals_law : SheetTotalsLaw
-sheet_totals_law options r s totals sheet n =
+sheet_totals_law options attributes r s totals sheet n =
     let rows = sheet.has.rows in
     let files = sheet.files in
     let view = view_of options.top rows (listed_files options.files files) in
@@ -197,16 +197,16 @@ sheet_totals_law options r s totals sheet n =
     let sums = sums_columns (sheet_format options.output) columns in
     let same : plus (sums_of_shown view.rows) (unwrap_or view.others no_files) ≡ r.totals =
     cut_totals_law options.by options.sort options.top r.rows.items files rows (listed_files options.files files) sheet.has.are_rows
-    ∙ sorted_totals options.by.dir options.sort r.rows.items r.files.items files sheet.are_files ∙ sym totals in
-    let shown : column_sum n (sheet_of options r view).rows + column_sum n (sheet_of options r view).others
-    ≡ first_number n (sheet_of options r view).totals =
+    ∙ sorted_totals (are_of_files options.by) options.sort r.rows.items r.files.items files sheet.are_files ∙ sym totals in
+    let shown : column_sum n (sheet_of options attributes r view).rows + column_sum n (sheet_of options attributes r view).others
+    ≡ first_number n (sheet_of options attributes r view).totals =
     ap₂ (λ a b. a + b) (rows_sum n form columns has view.rows) (others_sum n form sums of_sums view.others)
     ∙ sym (number_plus n (sums_of_shown view.rows) (unwrap_or view.others no_files)) ∙ ap (number_in n) same
     ∙ sym (sums_line n form sums of_sums (total_line r.totals)) in
     subst (λ (t : SheetModel). column_sum n t.rows + column_sum n t.others ≡ first_number n t.totals) (sym sheet.has.is) shown
 
 pub sheet_classes_law : SheetClassesLaw
-sheet_classes_law options r s totals sheet n =
+sheet_classes_law options attributes r s totals sheet n =
     let view = view_of options.top sheet.has.rows (listed_files options.files sheet.files) in
     let form = form_of options r.totals view.rows in
     let columns = row_columns options in
@@ -217,7 +217,7 @@ sheet_classes_law options r s totals sheet n =
     let total : number_in n r.totals ≡ number_in n text + number_in n binary =
     ap (number_in n) totals ∙ number_plus n text binary in
     let line = sums_line n form sums of_sums in
-    let shown : numbers_in n (sheet_of options r view).totals
+    let shown : numbers_in n (sheet_of options attributes r view).totals
     ≡ (number_in n text + number_in n binary) ∷ number_in n text ∷ number_in n binary ∷ [] =
     ap₂ (λ a b. a ∷ b) (line (total_line r.totals) ∙ total)
     (ap₂ (λ a b. a ∷ b ∷ []) (line (text_line r.classes)) (line (binary_line r.classes))) in (

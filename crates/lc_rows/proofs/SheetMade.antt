@@ -1,5 +1,5 @@
 -- A sheet that is made of parts.
-use Rattle.std.proofs.Common.{◌≡◌, List, nat_lt, refl}
+use Rattle.std.proofs.Common.{◌≡◌, ℕ, List, nat_lt, refl}
 use Rattle.lc_sheet.specs.{Sheets.sheet_format, declared.{column.Column.Column, form.Form.Form, table_options.TableOptions.TableOptions}}
 use Rattle.lc_walk.specs.declared.report.Report.{Report}
 use Rattle.lc_rows.specs.{Kinds.NamedSumsModel, RowKeys.ShownRowModel, SheetColumns.{file_columns, row_columns}, Sheets.form_of}
@@ -7,7 +7,7 @@ use Rattle.lc_rows.specs.{Sheets.{others_lines, sheet_of, sheet_with, totals_lin
 use Rattle.lc_level.specs.Level.{FileLineModel}
 
 -- where each part is that of a view, the sheet is that of the view
-pub made : (options : TableOptions) (r : Report) (v : ViewModel) (form : Form)
+pub made : (options : TableOptions) (attributes : List (List ℕ)) (r : Report) (v : ViewModel) (form : Form)
     (columns of_files : List Column) (rows : List ShownRowModel) (others totals : List NamedSumsModel) (files : List FileLineModel)
     → form ≡ form_of options r.totals rows → columns ≡ row_columns options
     → of_files ≡ file_columns (sheet_format options.output) options.by
@@ -15,6 +15,7 @@ pub made : (options : TableOptions) (r : Report) (v : ViewModel) (form : Form)
     → sheet_with (record {
       format = sheet_format options.output;
       form = form;
+      attributes = attributes;
       columns = columns;
       file_columns = of_files;
       rows = rows;
@@ -24,7 +25,8 @@ pub made : (options : TableOptions) (r : Report) (v : ViewModel) (form : Form)
       lists_files = options.files;
       files = files;
     }) r
-    ≡ sheet_of options r v
-made options r v form columns of_files rows others totals files is_form are_columns file_columns_are are_rows are_others are_totals
+    ≡ sheet_of options attributes r v
+made options attributes r v form columns of_files rows others totals files is_form are_columns file_columns_are are_rows are_others
+    are_totals
     are_files =
     rw (is_form, are_columns, file_columns_are, are_rows, are_others, are_totals, are_files) refl

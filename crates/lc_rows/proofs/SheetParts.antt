@@ -7,8 +7,10 @@ use Rattle.lc_sheet.specs.{Keys.{are_one_key, has_key}, Sheets.{SheetModel, line
 use Rattle.lc_sheet.specs.declared.{column.{Column.Column, Number.Number}, key.Key.Key}
 use Rattle.lc_sheet.specs.declared.{form.{Form.Form, Shares.Shares}, table_options.TableOptions.TableOptions}
 use Rattle.lc_walk.specs.{Sums.{no_files, plus}, declared.{report.Report.Report, tally.sums.Sums.Sums}}
+use Rattle.lc_sheet.specs.Keys.{are_of_files}
 use Rattle.lc_rows.specs.Kinds.{NamedSumsModel, bar_value, directory_in, extension_value, kept_value, key_value, row_value}
-use Rattle.lc_rows.specs.{Kinds.{share_value, sums_value, text_value}, RowKeys.{RowKey, ShownRowModel, row_key, sums_of_shown}}
+use Rattle.lc_rows.specs.Kinds.{share_value, sums_value, state_at, state_value, text_value}
+use Rattle.lc_rows.specs.RowKeys.{RowKey, ShownRowModel, row_key, sums_of_shown}
 use Rattle.lc_rows.specs.SheetColumns.{row_columns, sums_columns}
 use Rattle.lc_rows.specs.{SheetLaws.{ClassPartsLaw, HasClassTotals, IsSectionWithin, IsWithin, SheetPartsLaw}, Sheets.form_of}
 use Rattle.lc_rows.specs.Sheets.{listed_files, others_lines, section_of, share_number, shares_of, sheet_of, totals_lines}
@@ -18,6 +20,8 @@ use Rattle.lc_rows.proofs.{SheetLawProofs.{number_plus, sorted_totals, text_line
 use Rattle.lc_rules.specs.declared.states.TextState.TheVariants as text
 use Rattle.lc_sheet.specs.declared.column.Column.TheVariants as column
 use Rattle.lc_sheet.specs.declared.key.Key.TheVariants as key
+use Rattle.lc_rules.specs.Attributes.{StateModel}
+use Rattle.lc_rules.specs.Attributes as state
 
 -- ---- values
 
@@ -41,10 +45,17 @@ text_within text.Auto = tt
 text_within text.Other = tt
 text_within text.Unspecified = tt
 
+state_within : (s : StateModel) → IsWithin (state_value s)
+state_within state.set = tt
+state_within state.unset = tt
+state_within (state.value bytes) = tt
+state_within state.unspecified = tt
+
 key_within : (k : Key) (r : RowKey) → IsWithin (key_value k r)
 key_within key.Dir r = directory_within r.directory
-key_within key.Ext r = extension_within r.key.extension
-key_within key.Text r = text_within r.key.text
+key_within (key.Attribute place) r = state_within (state_at r.key.attributes place)
+key_within key.Ext r = extension_within r.key.tally.extension
+key_within key.Text r = text_within r.key.tally.text
 key_within key.Eol r = tt
 
 share_within : (shown : Bool) (q : Shares) (s : Sums) → number_in q.number s ≤ q.total
@@ -136,7 +147,7 @@ classes_under n r totals =
 -- ---- the laws
 
 pub sheet_parts_law : SheetPartsLaw
-sheet_parts_law options r s totals sheet =
+sheet_parts_law options attributes r s totals sheet =
     let rows = sheet.has.rows in
     let shown = first_of options.top rows in
     let n = share_number options.sort in
@@ -145,7 +156,7 @@ sheet_parts_law options r s totals sheet =
     let quota = shares_of n r.totals shown in
     let same : sums_of_shown rows ≡ r.totals =
     totals_law options.by options.sort r.rows.items sheet.files rows sheet.has.are_rows
-    ∙ sorted_totals options.by.dir options.sort r.rows.items r.files.items sheet.files sheet.are_files ∙ sym totals in
+    ∙ sorted_totals (are_of_files options.by) options.sort r.rows.items r.files.items sheet.files sheet.are_files ∙ sym totals in
     let parts : All (λ (q : ShownRowModel). number_in n q.sums ≤ number_in n r.totals) shown =
     subst (λ (t : Sums). All (λ (q : ShownRowModel). number_in n q.sums ≤ number_in n t) shown) same
     (first_are (λ q. number_in n q.sums ≤ number_in n (sums_of_shown rows)) options.top rows (rows_within_sum n rows)) in
@@ -154,17 +165,17 @@ sheet_parts_law options r s totals sheet =
     λ i d low. line_within form (get_or shown i d) columns (share_within options.share quota (get_or shown i d).sums (parts i d low))
     (bar_within options.share quota (get_or shown i d).sums (bars i d low)) in
     let files = listed_files options.files sheet.files in
-    let others : IsSectionWithin (sheet_of options r (view_of options.top rows files)).others =
+    let others : IsSectionWithin (sheet_of options attributes r (view_of options.top rows files)).others =
     sums_section_within options r.totals shown (sums_columns (sheet_format options.output) columns)
     (others_lines (view_of options.top rows files).others)
     (others_under n (sums_of_shown shown) r.totals (view_of options.top rows files).others
     (cut_totals_law options.by options.sort options.top r.rows.items sheet.files rows files sheet.has.are_rows
-    ∙ sorted_totals options.by.dir options.sort r.rows.items r.files.items sheet.files sheet.are_files ∙ sym totals)) in
+    ∙ sorted_totals (are_of_files options.by) options.sort r.rows.items r.files.items sheet.files sheet.are_files ∙ sym totals)) in
     subst (λ (t : SheetModel). IsSectionWithin t.rows × IsSectionWithin t.others) (sym sheet.has.is)
     (All-map (λ (line : List ValueModel). All IsWithin line) (line_of (row_value form) columns) shown within, others)
 
 pub class_parts_law : ClassPartsLaw
-class_parts_law options r s totals sheet =
+class_parts_law options attributes r s totals sheet =
     let view = view_of options.top sheet.has.rows (listed_files options.files sheet.files) in
     subst (λ (t : SheetModel). IsSectionWithin t.totals) (sym sheet.has.is)
     (sums_section_within options r.totals view.rows (sums_columns (sheet_format options.output) (row_columns options))

@@ -3,10 +3,9 @@ use Rattle.std.specs.{Cmp.{IsTotalOrder, IsStrictWeakOrder, Lexicographic.option
 use Rattle.std.proofs.lemmas.Cmp.{back_total, lists_total, nat_cmp_total, nat_list_cmp_total, on_total, then_total}
 use Rattle.std.proofs.lemmas.List.Sorted.{ranks_by}
 use Rattle.lc_sheet.specs.declared.column.Number.{Number}
-use Rattle.lc_walk.proofs.Keys.{key_cmp_total}
 use Rattle.lc_rows.specs.{RowKeys.{RowKey, ShownRowModel, row_key}, ShownFiles.{file_cmp, file_number}, ShownRows.{number_in, row_cmp}}
 use Rattle.lc_rows.specs.TreeRows.{byte_place, depth_first_cmp}
-use Rattle.lc_rows.proofs.SameKeys.{row_key_cmp_total}
+use Rattle.lc_rows.proofs.SameKeys.{file_key_cmp_total, row_key_cmp_total}
 use Rattle.lc_level.specs.Level.{FileLineModel}
 
 row_cmp_total : (n : Number) → IsTotalOrder (row_cmp n)
@@ -31,4 +30,4 @@ pub depth_first_cmp_total : IsTotalOrder depth_first_cmp
 unfolding depth_first_cmp
 depth_first_cmp_total =
     then_total (on_total (λ (k : RowKey). k.directory) (options_total (lists_total (on_total byte_place nat_cmp_total))))
-    (on_total (λ (k : RowKey). k.key) key_cmp_total)
+    (on_total (λ (k : RowKey). k.key) file_key_cmp_total)

@@ -7,9 +7,10 @@ use Rattle.std.specs.{Cmp.tied_then, List.{filter, range_with_len, sum_by}, Prel
 use Rattle.lc_tree.specs.ByteOrder.{bytes_cmp}
 use Rattle.lc_sheet.specs.declared.table_options.Columns.{Columns}
 use Rattle.lc_walk.proofs.{Filtered.{part, sum_by-filter}, RowSums.same_sums}
-use Rattle.lc_walk.specs.{Key.{Key, key_cmp, same_key}, Sums.one_file, declared.tally.sums.Sums.Sums}
-use Rattle.lc_rows.specs.{Directories.{directory_of, level_of}, Laws.{TreeLaw, sums_of_lines}, RowKeys.{RowKey, ShownRowModel, row_key}}
-use Rattle.lc_rows.specs.{RowKeys.{row_key_cmp, rows_within, same_row_key, sums_of_shown}, ShownRows.{file_key, key_in, part_of_file}}
+use Rattle.lc_walk.specs.{Sums.one_file, declared.tally.sums.Sums.Sums}
+use Rattle.lc_rows.specs.{Directories.{directory_of, level_of}, Laws.{TreeLaw, sums_of_lines}, RowKeys.{FileKey, RowKey, ShownRowModel}}
+use Rattle.lc_rows.specs.RowKeys.{file_key_cmp, row_key, row_key_cmp, rows_within, same_file_key, same_row_key, sums_of_shown}
+use Rattle.lc_rows.specs.ShownRows.{file_key, key_in, part_of_file}
 use Rattle.lc_rows.specs.TreeRows.{is_below, levels_above, parts_above, tree_parts}
 use Rattle.lc_rows.proofs.{Folding.{alike_permuted, alike_sums}, Levels.level_at}
 use Rattle.lc_level.specs.Level.{FileLineModel}
@@ -48,17 +49,17 @@ module _ {X : Type 0} (g : X → ℕ) (f : ℕ → X) where
       one_step m n _ refl lt none (λ less. one_counts m n less (λ j below. none j (omega arith)))
 
 -- the test of a row's key in parts
-pub key_parts : (d e : List ℕ) (k j : Key)
-    → same_row_key (record { directory = Some d; key = k }) (record { directory = Some e; key = j }) ≡ (bytes_eq d e && same_key k j)
+pub key_parts : (d e : List ℕ) (k j : FileKey)
+    → same_row_key (record { directory = Some d; key = k }) (record { directory = Some e; key = j }) ≡ (bytes_eq d e && same_file_key k j)
 unfolding row_key_cmp
 key_parts d e k j =
-    sym (tied_then (bytes_cmp d e) (key_cmp k j)) ∙ ap (λ b. b && same_key k j) (is_eq-slice_cmp d e)
+    sym (tied_then (bytes_cmp d e) (file_key_cmp k j)) ∙ ap (λ b. b && same_file_key k j) (is_eq-slice_cmp d e)
 
 no_gain : (a b : Bool) (w : ℕ) → a ≡ false → cond (a && b) w 0 ≡ 0
 no_gain a b w e = ap (λ t. cond (t && b) w 0) e
 
 -- what a file adds to the rows of a directory
-module _ (cut : ℕ) (by : Columns) (d : List ℕ) (k : Key) (known : level_of d ≤ cut) where
+module _ (cut : ℕ) (by : Columns) (d : List ℕ) (k : FileKey) (known : level_of d ≤ cut) where
   abbrev wanted : RowKey
   wanted = record { directory = Some d; key = k }
 
@@ -66,28 +67,28 @@ module _ (cut : ℕ) (by : Columns) (d : List ℕ) (k : Key) (known : level_of d
   adds v = part (λ (r : ShownRowModel). same_row_key wanted (row_key r)) (λ (r : ShownRowModel). v r.sums)
 
   abbrev counted : FileLineModel → Bool
-  counted f = is_below d f.path && same_key k (key_in by (file_key f))
+  counted f = is_below d f.path && same_file_key k (key_in by (file_key f))
 
-  file_adds : (v : Sums → ℕ) (f : FileLineModel) (n : ℕ) → adds v (part_of_file by n f)
-      ≡ cond (bytes_eq d (directory_of n f.path) && same_key k (key_in by (file_key f))) (v (one_file f.count)) 0
+  file_adds : (v : Sums → ℕ) (f : FileLineModel) (n : ℕ) → adds v (part_of_file by (Some n) f)
+      ≡ cond (bytes_eq d (directory_of n f.path) && same_file_key k (key_in by (file_key f))) (v (one_file f.count)) 0
   file_adds v f n = ap (λ b. cond b (v (one_file f.count)) 0) (key_parts d (directory_of n f.path) k (key_in by (file_key f)))
 
   file_sum_at : (v : Sums → ℕ) (f : FileLineModel) (b : Bool) → is_below d f.path ≡ b
-      → sum_by (adds v) (parts_above cut by f) ≡ cond (b && same_key k (key_in by (file_key f))) (v (one_file f.count)) 0
+      → sum_by (adds v) (parts_above cut by f) ≡ cond (b && same_file_key k (key_in by (file_key f))) (v (one_file f.count)) 0
   file_sum_at v f true e =
       let here : d ≡ directory_of (level_of d) f.path = (bytes_eq-Decides d (directory_of (level_of d) f.path)).0 e in
       let deep = level_at f.path (level_of d) in
       let many : ℕ = levels_above cut f.path + 1 in
       let within : level_of d < many = omega (arith, ap level_of here) in
-      one_counts (adds v) (λ n. part_of_file by n f) (level_of d) many within
+      one_counts (adds v) (λ n. part_of_file by (Some n) f) (level_of d) many within
       (λ j below other. file_adds v f j ∙ no_gain _ _ _ (false_from_ne_true _ (λ t.
       let same : d ≡ directory_of j f.path = (bytes_eq-Decides d (directory_of j f.path)).0 t in
       let deep_there = level_at f.path j in
       let level : j ≡ level_of d = omega (arith, ap level_of same) in
       other level)))
-      ∙ file_adds v f (level_of d) ∙ ap (λ b. cond (b && same_key k (key_in by (file_key f))) (v (one_file f.count)) 0) e
+      ∙ file_adds v f (level_of d) ∙ ap (λ b. cond (b && same_file_key k (key_in by (file_key f))) (v (one_file f.count)) 0) e
   file_sum_at v f false e =
-      none_counts (adds v) (λ n. part_of_file by n f) (levels_above cut f.path + 1)
+      none_counts (adds v) (λ n. part_of_file by (Some n) f) (levels_above cut f.path + 1)
       (λ j below. file_adds v f j ∙ no_gain _ _ _ (false_from_ne_true _ (λ t.
       let same : d ≡ directory_of j f.path = (bytes_eq-Decides d (directory_of j f.path)).0 t in
       let deep_there = level_at f.path j in

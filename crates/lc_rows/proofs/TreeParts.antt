@@ -151,27 +151,28 @@ raised_parts n parts rows same = record {
 -- ---- the parts of files
 
 -- a file adds to the directories above it what its directory does
-file_levels : (n : ℕ) (by : Columns) (f : FileLineModel) → level_parts n (part_of_file by n f) ≡ parts_above n by f
+file_levels : (n : ℕ) (by : Columns) (f : FileLineModel) → level_parts n (part_of_file by (Some n) f) ≡ parts_above n by f
 file_levels n by f =
     let many : min n (level_of (directory_of n f.path)) + 1 ≡ levels_above n f.path + 1 = omega (arith, level_at f.path n) in
-    ap (λ k. map (λ level. row_at level (part_of_file by n f)) (range_with_len 0 k)) many
-    ∙ same_below (λ level. row_at level (part_of_file by n f)) (λ level. part_of_file by level f) (levels_above n f.path + 1)
+    ap (λ k. map (λ level. row_at level (part_of_file by (Some n) f)) (range_with_len 0 k)) many
+    ∙ same_below (λ level. row_at level (part_of_file by (Some n) f)) (λ level. part_of_file by (Some level) f) (levels_above n f.path + 1)
     (λ j lt. ap (λ d. row_with (record { directory = Some d; key = key_in by (file_key f) }) (one_file f.count))
     (first_again (parent_of f.path) j n (omega arith)))
 
-files_levels : (n : ℕ) (by : Columns) (fs : List FileLineModel) → flat_map (level_parts n) (map (part_of_file by n) fs) ≡ tree_parts n by fs
+files_levels : (n : ℕ) (by : Columns) (fs : List FileLineModel)
+    → flat_map (level_parts n) (map (part_of_file by (Some n)) fs) ≡ tree_parts n by fs
 files_levels n by [] = refl
 files_levels n by (f ∷ fs) =
-    ap (λ l. l ++ flat_map (level_parts n) (map (part_of_file by n) fs)) (file_levels n by f)
+    ap (λ l. l ++ flat_map (level_parts n) (map (part_of_file by (Some n)) fs)) (file_levels n by f)
     ∙ ap (λ l. parts_above n by f ++ l) (files_levels n by fs)
 
 -- the rows of directories with files, added to all directories above them, are what all files add up to
 pub added_tree : (n : ℕ) (by : Columns) (fs : List FileLineModel) (rows sorted all added : List ShownRowModel)
-    → AreAddedUp (map (part_of_file by n) fs) rows → IsPermutation rows sorted → HaveSumsOf (flat_map (level_parts n) sorted) all
+    → AreAddedUp (map (part_of_file by (Some n)) fs) rows → IsPermutation rows sorted → HaveSumsOf (flat_map (level_parts n) sorted) all
     → AreAddedUp all added → AreAddedUp (tree_parts n by fs) added
 added_tree n by fs rows sorted all added first moved raised last =
     let alike = alike_permuted rows sorted moved in
-    let parts = raised_parts n (map (part_of_file by n) fs) sorted (record {
+    let parts = raised_parts n (map (part_of_file by (Some n)) fs) sorted (record {
       sums = λ keys. alike_sums rows sorted alike keys ∙ first.sums keys;
       present = λ keys. alike.present keys ∙ first.present keys;
     }) in

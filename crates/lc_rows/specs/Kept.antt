@@ -29,7 +29,7 @@ file_meets cs f = holds_all (value_of_file f) cs
 abbrev pub row_meets : List ConditionModel → TallyRowModel → Bool
 row_meets cs r = holds_all (value_of_row r) cs
 
--- the rows that meet the conditions; if a condition is on a number, the rows of the files that meet the conditions
+-- the rows that meet the conditions; if a condition is on what files alone have, the rows of the files that meet the conditions
 abbrev pub AreKeptRows : Bool → List ConditionModel → Report → List FileLineModel → List TallyRowModel → Type 0
 AreKeptRows by_file cs r files rows =
     MatchBool by_file (IsTally (map counted_line files) rows) (rows ≡ filter (row_meets cs) r.rows.items)

@@ -1,6 +1,6 @@
 -- What is true of the parts of a report that meet conditions.
 use Rattle.std.specs.{Prelude.{◌≡◌, ℕ, Bool, if◌then◌else◌, List, [], ◌∷◌, map}, List.Sorted.IsPermutation}
-use Rattle.lc_sheet.specs.Conditions.{ConditionModel, TestModel, compared, is_on_number, none_of, one_of}
+use Rattle.lc_sheet.specs.Conditions.{ConditionModel, TestModel, compared, is_on_files, none_of, one_of}
 use Rattle.lc_sheet.specs.declared.condition.Comparison.{Comparison, TheVariants.{Less, AtMost, Equal, Unequal, AtLeast, Greater}}
 use Rattle.lc_tree.specs.Trees.{Listings, Contents}
 use Rattle.lc_walk.specs.{ReportTotals.{TotalsAddUp, counted_line}, Sums.plus, Tally.sums_of_files, TallyRows.sums_of_rows}
@@ -32,7 +32,7 @@ opposite_test (compared comparison n) = compared (opposite_of comparison) n
 abbrev pub opposite : ConditionModel → ConditionModel
 opposite c = record { column = c.column; test = opposite_test c.test }
 
--- the sums over all that a condition is tested on: the files for a condition on a number, and otherwise the rows
+-- the sums over all that a condition is tested on: the files for a condition on what they alone have, and otherwise the rows
 abbrev pub tested_sums : Bool → Report → Sums
 tested_sums by_file r = if by_file then sums_of_files (map counted_line r.files.items) else sums_of_rows r.rows.items
 
@@ -48,10 +48,10 @@ AddUpOpposite c r =
 
 -- opposite conditions add up if the totals are the sums over all that the condition is tested on
 abbrev pub OppositesLaw : Type 0
-OppositesLaw = (c : ConditionModel) (r : Report) → r.totals ≡ tested_sums (is_on_number c) r → AddUpOpposite c r
+OppositesLaw = (c : ConditionModel) (r : Report) → r.totals ≡ tested_sums (is_on_files c) r → AddUpOpposite c r
 
 -- opposite conditions add up for each report of a walk, and for the part of such a report that meets other conditions; if the condition is
--- on a number, the walk must list its files
+-- on what files alone have, the walk must list them
 abbrev pub WalkedOppositesLaw : (List ℕ → Listings) → (List ℕ → Contents) → Type 0
 WalkedOppositesLaw lists gives =
     (o : Options) (c : ConditionModel) (r : Report) → IsOfWalk lists gives o r → ListsFilesToTest o c → AddUpOpposite c r

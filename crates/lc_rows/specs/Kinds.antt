@@ -1,11 +1,12 @@
 -- The lines of a sheet: the values that rows, sums, files, skipped entries and errors have in each column.
-use Rattle.std.specs.Prelude.{ℕ, Bool, if◌then◌else◌, List, [], ◌∷◌, codes, Option, Some, None}
+use Rattle.std.specs.Prelude.{ℕ, Bool, true, false, if◌then◌else◌, List, [], ◌∷◌, codes, Option, Some, None, slice_get, unwrap_or}
 use Rattle.lc_census.specs.EolWords.{eol_word}
 use Rattle.lc_level.specs.{FaultLines.FaultLineModel, FaultWords.fault_word, Level.{SkippedLineModel, FileLineModel, Reason as SkipReason}}
 use Rattle.lc_level.specs.ReasonWords.{attribute_of, reason_word, rule_of}
-use Rattle.lc_rules.specs.{TextWords.text_word, declared.{rule_source.RuleSource.RuleSource, states.TextState.TextState}}
-use Rattle.lc_sheet.specs.{Keys.{are_one_key, has_key}, Values.{ValueModel, missing, summed, blank, word, name, path, number, share, bar}}
-use Rattle.lc_sheet.specs.declared.{column.Column.Column, key.Key.Key}
+use Rattle.lc_rules.specs.{Attributes.StateModel, TextWords.text_word}
+use Rattle.lc_rules.specs.declared.{rule_source.RuleSource.RuleSource, states.TextState.TextState}
+use Rattle.lc_sheet.specs.{Keys.{are_one_key, has_key}, Values.{ValueModel, missing, summed, blank, word, flag, name, path, number}}
+use Rattle.lc_sheet.specs.{Values.{share, bar}, declared.{column.Column.Column, key.Key.Key}}
 use Rattle.lc_sheet.specs.declared.form.{Form.Form, Shares.Shares}
 use Rattle.lc_text.specs.RulePlaces.{source_directory, source_name}
 use Rattle.lc_walk.specs.declared.tally.sums.Sums.{Sums}
@@ -13,6 +14,7 @@ use Rattle.lc_rows.specs.{RowKeys.{RowKey, ShownRowModel, row_key}, ShownFiles.f
 use Rattle.lc_rows.specs.Words.{kind_word, skipped_end}
 use Rattle.lc_sheet.specs.declared.column.Column.TheVariants as column
 use Rattle.lc_sheet.specs.declared.key.Key.TheVariants as key
+use Rattle.lc_rules.specs.Attributes as state
 
 -- ---- values
 
@@ -37,6 +39,17 @@ word_value (Some w) = word w
 abbrev pub text_value : TextState → ValueModel
 text_value state = word_value (text_word state)
 
+-- the state of an attribute as a value
+abbrev pub state_value : StateModel → ValueModel
+state_value state.set = flag true
+state_value state.unset = flag false
+state_value (state.value bytes) = bytes_value bytes
+state_value state.unspecified = missing
+
+-- and the state at a place, if there is one
+abbrev pub state_at : List StateModel → ℕ → StateModel
+state_at states place = unwrap_or (slice_get states place) state.unspecified
+
 -- the directory of files as a value; files without one are summed over directories
 abbrev pub directory_in : Option (List ℕ) → ValueModel
 directory_in None = summed
@@ -45,9 +58,10 @@ directory_in (Some p) = directory_value p
 -- the value of files in the column of a key
 abbrev pub key_value : Key → RowKey → ValueModel
 key_value key.Dir k = directory_in k.directory
-key_value key.Ext k = extension_value k.key.extension
-key_value key.Text k = text_value k.key.text
-key_value key.Eol k = word (eol_word k.key.eol)
+key_value (key.Attribute place) k = state_value (state_at k.key.attributes place)
+key_value key.Ext k = extension_value k.key.tally.extension
+key_value key.Text k = text_value k.key.tally.text
+key_value key.Eol k = word (eol_word k.key.tally.eol)
 
 -- the value in a column that rows are grouped by, or `summed` in a column that they are summed over
 abbrev pub kept_value : Bool → ValueModel → ValueModel

@@ -1,11 +1,14 @@
 -- What is true of the rows and files that a table shows.
-use Rattle.std.specs.{Prelude.{◌≡◌, ◌≤◌, ◌-◌, ◌&&◌, ℕ, true, List, length, map, take, Option, Some, None, unwrap_or}, List.{All, filter}}
+use Rattle.std.specs.Prelude.{◌≡◌, ◌≤◌, ◌-◌, ◌&&◌, ℕ, Bool, true, if◌then◌else◌, List, length, map, take, Option, Some, unwrap_or}
+use Rattle.std.specs.Prelude.{option_map}
+use Rattle.std.specs.List.{All, filter}
 use Rattle.std.specs.List.{join_with_byte, Sorted.IsPermutation}
+use Rattle.lc_sheet.specs.Keys.{are_of_files}
 use Rattle.lc_sheet.specs.declared.{table_options.Columns.Columns, column.Number.Number}
 use Rattle.lc_glob.specs.{Bytes.slash, Path.{is_good_path, segments_of}}
-use Rattle.lc_walk.specs.{Key.{Key, same_key}, Sums.{no_files, one_file, plus}, TallyRows.{TallyRowModel, sums_of_rows, IsInOrder}}
+use Rattle.lc_walk.specs.{Sums.{no_files, one_file, plus}, TallyRows.{TallyRowModel, sums_of_rows, IsInOrder}}
 use Rattle.lc_walk.specs.declared.tally.sums.Sums.{Sums}
-use Rattle.lc_rows.specs.{Directories.{directory_of, level_of}, RowKeys.{RowKey, ShownRowModel}}
+use Rattle.lc_rows.specs.{Directories.{directory_of, level_of}, RowKeys.{FileKey, RowKey, ShownRowModel, same_file_key}}
 use Rattle.lc_rows.specs.{RowKeys.{rows_within, same_row_key, sums_of_shown, sums_over}, ShownFiles.{AreFilesSorted, file_number}}
 use Rattle.lc_rows.specs.{ShownRows.{AreAddedUp, AreShown, AreSummed, file_key, key_in, part_of_row}, TreeRows.{AreTreeRows, is_below}}
 use Rattle.lc_rows.specs.{TreeRows.{is_child, is_in}, Views.{first_of, rest_of, view_of}}
@@ -22,42 +25,39 @@ PermutationLaw =
 abbrev pub sums_of_lines : List FileLineModel → Sums
 sums_of_lines fs = sums_over (λ (f : FileLineModel). one_file f.count) fs
 
--- the sums over all that a table adds up: the rows of the report, or the files if rows are by directory
-abbrev pub totals_of : Option ℕ → List TallyRowModel → List FileLineModel → Sums
-totals_of None rs fs = sums_of_rows rs
-totals_of (Some n) rs fs = sums_of_lines fs
+-- the sums over all that a table adds up: the rows of the report, or the files if rows are by directories or attributes
+abbrev pub totals_of : Bool → List TallyRowModel → List FileLineModel → Sums
+totals_of of_files rs fs = if of_files then sums_of_lines fs else sums_of_rows rs
 
 -- whichever columns are missing, and however rows are sorted, the shown rows have the sums over all rows of the report, or over all files
 abbrev pub TotalsLaw : Type 0
 TotalsLaw =
     (by : Columns) (sort : Option Number) (rs : List TallyRowModel) (fs : List FileLineModel) (shown : List ShownRowModel)
-    → AreShown by sort rs fs shown → sums_of_shown shown ≡ totals_of by.dir rs fs
+    → AreShown by sort rs fs shown → sums_of_shown shown ≡ totals_of (are_of_files by) rs fs
 
 -- adding up rows that are in the order of their keys changes no row if no column is missing
 abbrev pub WholeLaw : Type 0
 WholeLaw = (rs : List TallyRowModel) → IsInOrder rs → AreAddedUp (map (part_of_row all_columns) rs) (map (part_of_row all_columns) rs)
 
--- the columns of a table by directory, whose directories are cut after n names
-abbrev pub by_directories : ℕ → Columns → Columns
-by_directories n by = record { dir = Some n; ext = by.ext; text = by.text; eol = by.eol }
+-- the key of a file's row in a table by directories or attributes: the file's directory, cut, if rows are by directory, and the file's key
+-- in the columns that rows are grouped by
+abbrev pub file_row_key : Columns → FileLineModel → RowKey
+file_row_key by f = record { directory = option_map (λ n. directory_of n f.path) by.dir; key = key_in by (file_key f) }
 
--- the key of a file's row in a table by directory: the file's directory, cut, and its key in the columns that rows are grouped by
-abbrev pub file_row_key : ℕ → Columns → FileLineModel → RowKey
-file_row_key n by f = record { directory = Some (directory_of n f.path); key = key_in by (file_key f) }
-
--- for each directory and key, the rows have the sums over the files that have this key and whose own directory is cut to this directory
+-- for each directory and key, the rows have the sums over the files that have this key and whose own directory is cut to this directory;
+-- the key has the states of the attributes that rows are grouped by
 abbrev pub DirectoriesLaw : Type 0
 DirectoriesLaw =
-    (n : ℕ) (by : Columns) (sort : Option Number) (rs : List TallyRowModel) (fs : List FileLineModel) (shown : List ShownRowModel)
-    (k : RowKey) → AreShown (by_directories n by) sort rs fs shown
-    → sums_of_shown (rows_within (same_row_key k) shown) ≡ sums_of_lines (filter (λ f. same_row_key k (file_row_key n by f)) fs)
+    (by : Columns) (sort : Option Number) (rs : List TallyRowModel) (fs : List FileLineModel) (shown : List ShownRowModel) (k : RowKey)
+    → are_of_files by ≡ true → AreShown by sort rs fs shown
+    → sums_of_shown (rows_within (same_row_key k) shown) ≡ sums_of_lines (filter (λ f. same_row_key k (file_row_key by f)) fs)
 
--- each file is in exactly one row of a table by directory
+-- each file is in exactly one row of a table by directories or attributes
 abbrev pub OneRowLaw : Type 0
 OneRowLaw =
-    (n : ℕ) (by : Columns) (sort : Option Number) (rs : List TallyRowModel) (fs : List FileLineModel) (shown : List ShownRowModel)
-    → AreShown (by_directories n by) sort rs fs shown
-    → All (λ f. length (rows_within (same_row_key (file_row_key n by f)) shown) ≡ 1) fs
+    (by : Columns) (sort : Option Number) (rs : List TallyRowModel) (fs : List FileLineModel) (shown : List ShownRowModel)
+    → are_of_files by ≡ true → AreShown by sort rs fs shown
+    → All (λ f. length (rows_within (same_row_key (file_row_key by f)) shown) ≡ 1) fs
 
 -- the directory of a path in a tree, cut after n names, is the first n segments of the path, but never the last one; all segments are names
 abbrev pub NamesLaw : Type 0
@@ -69,27 +69,28 @@ NamesLaw =
 -- it which have that key
 abbrev pub TreeLaw : Type 0
 TreeLaw =
-    (n : ℕ) (by : Columns) (fs : List FileLineModel) (rows : List ShownRowModel) (directory : List ℕ) (key : Key)
+    (n : ℕ) (by : Columns) (fs : List FileLineModel) (rows : List ShownRowModel) (directory : List ℕ) (key : FileKey)
     → level_of directory ≤ n → AreTreeRows n by fs rows
     → sums_of_shown (rows_within (same_row_key (record { directory = Some directory; key = key })) rows)
-    ≡ sums_of_lines (filter (λ f. is_below directory f.path && same_key key (key_in by (file_key f))) fs)
+    ≡ sums_of_lines (filter (λ f. is_below directory f.path && same_file_key key (key_in by (file_key f))) fs)
 
 -- for each directory and key, the sums of a row of a tree are those over the files right in the directory, and those of the rows of the
 -- directories right in it
 abbrev pub ChildrenLaw : Type 0
 ChildrenLaw =
-    (n : ℕ) (by : Columns) (fs : List FileLineModel) (rows : List ShownRowModel) (directory : List ℕ) (key : Key)
+    (n : ℕ) (by : Columns) (fs : List FileLineModel) (rows : List ShownRowModel) (directory : List ℕ) (key : FileKey)
     → AreTreeRows n by fs rows
     → sums_of_shown (rows_within (same_row_key (record { directory = Some directory; key = key })) rows)
-    ≡ plus (sums_of_lines (filter (λ f. is_in n directory f.path && same_key key (key_in by (file_key f))) fs))
-    (sums_of_shown (rows_within (λ k. is_child directory k.directory && same_key key k.key) rows))
+    ≡ plus (sums_of_lines (filter (λ f. is_in n directory f.path && same_file_key key (key_in by (file_key f))) fs))
+    (sums_of_shown (rows_within (λ k. is_child directory k.directory && same_file_key key k.key) rows))
 
 -- the shown rows of a cut table, and the sums over the other rows, add up to the sums over all rows
 abbrev pub CutTotalsLaw : Type 0
 CutTotalsLaw =
     (by : Columns) (sort : Option Number) (top : Option ℕ) (rs : List TallyRowModel) (fs : List FileLineModel)
     (rows : List ShownRowModel) (files : List FileLineModel) → AreShown by sort rs fs rows
-    → plus (sums_of_shown (view_of top rows files).rows) (unwrap_or (view_of top rows files).others no_files) ≡ totals_of by.dir rs fs
+    → plus (sums_of_shown (view_of top rows files).rows) (unwrap_or (view_of top rows files).others no_files)
+    ≡ totals_of (are_of_files by) rs fs
 
 -- sorted files are the files, each once
 abbrev pub SortedFilesLaw : Type 0

@@ -1,9 +1,10 @@
 -- The columns that each section of a sheet has in each format.
-use Rattle.std.specs.{Prelude.{Bool, true, false, if◌then◌else◌, List, [], ◌∷◌, ◌++◌, flat_map, is_some, unwrap_or}, List.find}
+use Rattle.std.specs.Prelude.{Bool, true, false, if◌then◌else◌, nat_lt, List, [], ◌∷◌, ◌++◌, map, flat_map, is_some, unwrap_or}
+use Rattle.std.specs.List.{find, range_with_len}
 use Rattle.lc_rows.specs.declared.columns.TheConstants.{LISTED_FAULTS, LISTED_FILES, LISTED_SKIPPED, NUMBERS, RECORDED_FILES}
 use Rattle.lc_rows.specs.declared.columns.TheConstants.{SKIPPED_RECORDS}
-use Rattle.lc_sheet.specs.{Keys.{has_key, keys}, Sheets.sheet_format}
-use Rattle.lc_sheet.specs.declared.{column.Column.Column, key.Key.{Key, TheVariants.{Dir, Eol}}}
+use Rattle.lc_sheet.specs.{Keys.{has_key, report_keys}, Sheets.sheet_format}
+use Rattle.lc_sheet.specs.declared.{column.Column.Column, key.Key.{Key, TheVariants.{Dir, Attribute, Eol}}}
 use Rattle.lc_sheet.specs.declared.table_options.{Columns.Columns, Format.{Format, TheVariants.{Tsv, Table, Json, Csv, Markdown}}}
 use Rattle.lc_sheet.specs.declared.table_options.TableOptions.{TableOptions}
 use Rattle.lc_sheet.specs.declared.column.Column.TheVariants as column
@@ -16,19 +17,25 @@ abbrev pub keeps_columns : Format → Bool
 keeps_columns Tsv = true
 keeps_columns other = false
 
--- whether rows have the column of a key: if they are grouped by it, and in some formats also if they are summed over it; but the column of
--- directories only if they are grouped by directory
+-- whether rows have the column of a key of a report's rows: if they are grouped by it, and in some formats also if they are summed over it
 abbrev pub shows_key : Bool → Columns → Key → Bool
-shows_key all by Dir = is_some by.dir
 shows_key all by key = if all then true else has_key by key
+
+-- the columns of the attributes that rows are grouped by
+abbrev pub attribute_columns : Columns → List Column
+attribute_columns by = map (λ place. column.Key (Attribute place)) (range_with_len 0 by.attributes)
 
 -- the columns of the rows' keys
 abbrev pub key_columns : Bool → Columns → List Column
-key_columns all by = flat_map (λ key. column_if (shows_key all by key) (column.Key key)) keys
+key_columns all by = column_if (is_some by.dir) (column.Key Dir) ++ (attribute_columns by
+    ++ flat_map (λ key. column_if (shows_key all by key) (column.Key key)) report_keys)
 
 -- the first of these keys
 abbrev pub first_key : Bool → Columns → Key
-first_key all by = unwrap_or (find (shows_key all by) keys) Eol
+first_key all by =
+    if is_some by.dir then Dir
+    else if nat_lt 0 by.attributes then Attribute 0
+    else unwrap_or (find (shows_key all by) report_keys) Eol
 
 -- the columns of numbers in rows and sums
 abbrev pub number_columns : List Column
@@ -51,16 +58,16 @@ sums_columns Json rows = number_columns
 sums_columns Csv rows = number_columns
 sums_columns other rows = rows
 
--- the columns of files in lists, and in records; records have the directory if rows are by directory
+-- the columns of files in lists, and in records; records have the directory and the attributes that rows are grouped by
 abbrev pub listed_columns : List Column
 listed_columns = LISTED_FILES
 
-abbrev pub recorded_columns : Bool → List Column
-recorded_columns by_directory = column.Path ∷ (column_if by_directory (column.Key Dir) ++ RECORDED_FILES)
+abbrev pub recorded_columns : Columns → List Column
+recorded_columns by = column.Path ∷ (column_if (is_some by.dir) (column.Key Dir) ++ (attribute_columns by ++ RECORDED_FILES))
 
 abbrev pub file_columns : Format → Columns → List Column
-file_columns Json by = recorded_columns (is_some by.dir)
-file_columns Csv by = recorded_columns (is_some by.dir)
+file_columns Json by = recorded_columns by
+file_columns Csv by = recorded_columns by
 file_columns other by = listed_columns
 
 -- the columns of skipped entries in lists, and in records

@@ -1,7 +1,7 @@
 -- What is true of the sheet of a report, whatever its format.
 use Rattle.std.specs.{Prelude.{⊤, ◌≡◌, ◌≤◌, ℕ, ◌+◌, Bool, true, false, if◌then◌else◌, List, [], ◌∷◌, map, Some}, List.{All, sum_by}}
-use Rattle.lc_sheet.specs.{Sheets.{SectionModel, SheetModel}, Values.{ValueModel, missing, summed, blank, word, name, path, number, share}}
-use Rattle.lc_sheet.specs.Values.{bar, difference}
+use Rattle.lc_sheet.specs.{Sheets.{SectionModel, SheetModel}, Values.{ValueModel, missing, summed, blank, word, flag, name, path, number}}
+use Rattle.lc_sheet.specs.{Keys.are_of_files, Values.{share, bar, difference}}
 use Rattle.lc_sheet.specs.declared.column.{Column.Column, Number.{Number, TheVariants.{Files, Lines, Blank, Bytes}}}
 use Rattle.lc_sheet.specs.declared.table_options.TableOptions.{TableOptions}
 use Rattle.lc_tree.specs.Trees.{Listings, Contents}
@@ -48,9 +48,9 @@ number_of_first n columns (line ∷ lines) = number_at n columns line
 abbrev pub first_number : Number → SectionModel → ℕ
 first_number n s = number_of_first n s.columns s.lines
 
--- the totals of a report are the sums over what a table adds up: the report's rows, or its files if rows are by directory
+-- the totals of a report are the sums over what a table adds up: the report's rows, or its files if rows are by directories or attributes
 abbrev pub HasTotals : TableOptions → Report → Type 0
-HasTotals options r = r.totals ≡ totals_of options.by.dir r.rows.items r.files.items
+HasTotals options r = r.totals ≡ totals_of (are_of_files options.by) r.rows.items r.files.items
 
 -- in each column of numbers, the shown rows and the sums over the rows that are cut off add up to the total
 abbrev pub RowsAddUp : SheetModel → Type 0
@@ -58,7 +58,8 @@ RowsAddUp s = (n : Number) → column_sum n s.rows + column_sum n s.others ≡ f
 
 abbrev pub SheetTotalsLaw : Type 0
 SheetTotalsLaw =
-    (options : TableOptions) (r : Report) (s : SheetModel) → HasTotals options r → IsSheetOf options r s
+    (options : TableOptions) (attributes : List (List ℕ)) (r : Report) (s : SheetModel) → HasTotals options r
+    → IsSheetOf options attributes r s
     → RowsAddUp s
 
 -- in each column of numbers, text files and binary files add up to the total
@@ -71,8 +72,8 @@ HasClassTotals r = r.totals ≡ plus r.classes.text r.classes.binary
 
 abbrev pub SheetClassesLaw : Type 0
 SheetClassesLaw =
-    (options : TableOptions) (r : Report) (s : SheetModel) → HasClassTotals r
-    → IsSheetOf options r s → ClassesAddUp s
+    (options : TableOptions) (attributes : List (List ℕ)) (r : Report) (s : SheetModel) → HasClassTotals r
+    → IsSheetOf options attributes r s → ClassesAddUp s
 
 -- a share or a bar is of a part that is no larger than its whole
 abbrev pub IsWithin : ValueModel → Type 0
@@ -80,6 +81,7 @@ IsWithin missing = ⊤
 IsWithin summed = ⊤
 IsWithin blank = ⊤
 IsWithin (word w) = ⊤
+IsWithin (flag is_set) = ⊤
 IsWithin (name n) = ⊤
 IsWithin (path p) = ⊤
 IsWithin (number n) = ⊤
@@ -98,13 +100,14 @@ pub record SharesAreWithin (s : SheetModel) : Type 0 where
 
 abbrev pub SheetPartsLaw : Type 0
 SheetPartsLaw =
-    (options : TableOptions) (r : Report) (s : SheetModel) → HasTotals options r → IsSheetOf options r s
+    (options : TableOptions) (attributes : List (List ℕ)) (r : Report) (s : SheetModel) → HasTotals options r
+    → IsSheetOf options attributes r s
     → IsSectionWithin s.rows × IsSectionWithin s.others
 
 abbrev pub ClassPartsLaw : Type 0
 ClassPartsLaw =
-    (options : TableOptions) (r : Report) (s : SheetModel) → HasClassTotals r
-    → IsSheetOf options r s → IsSectionWithin s.totals
+    (options : TableOptions) (attributes : List (List ℕ)) (r : Report) (s : SheetModel) → HasClassTotals r
+    → IsSheetOf options attributes r s → IsSectionWithin s.totals
 
 -- rows and classes add up, and no share is over its whole
 pub record SheetAddsUp (s : SheetModel) : Type 0 where
@@ -112,12 +115,12 @@ pub record SheetAddsUp (s : SheetModel) : Type 0 where
   pub classes : ClassesAddUp s
   pub shares : SharesAreWithin s
 
--- each sheet of a walk's report adds up, and each sheet of the part of such a report that meets conditions; for a sheet by directory, the
--- walk must list its files
+-- each sheet of a walk's report adds up, and each sheet of the part of such a report that meets conditions; for a sheet by
+-- directories or attributes, the walk must list its files
 abbrev pub WalkedSheetLaw : (List ℕ → Listings) → (List ℕ → Contents) → Type 0
 WalkedSheetLaw lists gives =
-    (o : Options) (options : TableOptions) (r : Report) (s : SheetModel) → IsOfWalk lists gives o r → ListsFilesFor o options
-    → IsSheetOf options r s → SheetAddsUp s
+    (o : Options) (options : TableOptions) (attributes : List (List ℕ)) (r : Report) (s : SheetModel)
+    → IsOfWalk lists gives o r → ListsFilesFor o options → IsSheetOf options attributes r s → SheetAddsUp s
 
 abbrev pub bytes_of : ValueModel → List ℕ
 bytes_of (path p) = p
@@ -133,7 +136,8 @@ path_at (c ∷ cs) (v ∷ vs) = path_at cs vs
 -- the files that a sheet lists are the first of the report's sorted files
 abbrev pub SheetFilesLaw : Type 0
 SheetFilesLaw =
-    (options : TableOptions) (r : Report) (s : SheetModel) (section : SectionModel) → IsSheetOf options r s
+    (options : TableOptions) (attributes : List (List ℕ)) (r : Report) (s : SheetModel) (section : SectionModel)
+    → IsSheetOf options attributes r s
     → s.files ≡ Some section
     → (files : List FileLineModel) × AreFilesSorted options.sort r.files.items files
     × (map (path_at section.columns) section.lines ≡ map (λ (f : FileLineModel). f.path) (first_of options.top files))

@@ -46,11 +46,13 @@ totals_lines totals classes =
 
 -- ---- the sheet
 
--- what is shown of a report: the format and the form; the columns of rows and of files; the rows; the sums, and whether a file is binary;
+-- what is shown of a report: the format and the form; the columns of attributes, of rows and of files; the rows; the sums, and whether a
+-- file is binary;
 -- the files, if they are listed
 pub record ShownModel : Type 0 where
   pub format : Format
   pub form : Form
+  pub attributes : List (List ℕ)
   pub columns : List Column
   pub file_columns : List Column
   pub rows : List ShownRowModel
@@ -61,19 +63,24 @@ pub record ShownModel : Type 0 where
   pub files : List FileLineModel
 
 abbrev pub section_of : {X : Type 0} → (X → Column → ValueModel) → List Column → List X → SectionModel
-section_of value columns lines = record { tag = None; columns = columns; lines = lines_of value columns lines }
+section_of value columns lines = record { tag = None; attributes = []; columns = columns; lines = lines_of value columns lines }
 
 -- a section whose lines are named by a word
 abbrev pub list_of : List ℕ → SectionModel → SectionModel
 list_of word s = record s { tag = Some word }
 
+-- a section with the columns of the attributes that were asked for
+abbrev pub with_attributes : List (List ℕ) → SectionModel → SectionModel
+with_attributes attributes s = record s { attributes = attributes }
+
 abbrev pub files_section : ShownModel → Option SectionModel
 files_section m =
-    if m.lists_files then Some (list_of (codes "file") (section_of (file_value m.form) m.file_columns m.files)) else None
+    if m.lists_files
+    then Some (list_of (codes "file") (with_attributes m.attributes (section_of (file_value m.form) m.file_columns m.files))) else None
 
 abbrev pub sheet_with : ShownModel → Report → SheetModel
 sheet_with m r = record {
-  rows = section_of (row_value m.form) m.columns m.rows;
+  rows = with_attributes m.attributes (section_of (row_value m.form) m.columns m.rows);
   others = section_of (sums_value m.form) (sums_columns m.format m.columns) m.others;
   totals = section_of (sums_value m.form) (sums_columns m.format m.columns) m.totals;
   compares = false;
@@ -86,10 +93,11 @@ sheet_with m r = record {
   faults = Some (list_of (codes "fault") (section_of (fault_value m.form) fault_columns r.faults.items));
 }
 
-abbrev pub shown_of : TableOptions → Report → ViewModel → ShownModel
-shown_of options r v = record {
+abbrev pub shown_of : TableOptions → List (List ℕ) → Report → ViewModel → ShownModel
+shown_of options attributes r v = record {
   format = sheet_format options.output;
   form = form_of options r.totals v.rows;
+  attributes = attributes;
   columns = row_columns options;
   file_columns = file_columns (sheet_format options.output) options.by;
   rows = v.rows;
@@ -100,22 +108,23 @@ shown_of options r v = record {
   files = v.files;
 }
 
--- the sheet of a report with these options, and with this view of its rows and files
-abbrev pub sheet_of : TableOptions → Report → ViewModel → SheetModel
-sheet_of options r v = sheet_with (shown_of options r v) r
+-- the sheet of a report with these options, these columns of attributes, and this view of its rows and files
+abbrev pub sheet_of : TableOptions → List (List ℕ) → Report → ViewModel → SheetModel
+sheet_of options attributes r v = sheet_with (shown_of options attributes r v) r
 
 -- the files that a sheet lists: none if files are not requested
 abbrev pub listed_files : Bool → List FileLineModel → List FileLineModel
 listed_files listed files = if listed then files else []
 
--- a sheet of a report with these options: it shows the first of these files, and the first of the rows, summed and sorted
-pub record HasFiles (options : TableOptions) (r : Report) (files : List FileLineModel) (s : SheetModel) : Type 0 where
+-- a sheet of a report with these options and columns: it shows the first of these files, and the first of the rows, summed and sorted
+pub record HasFiles (options : TableOptions) (attributes : List (List ℕ)) (r : Report) (files : List FileLineModel)
+    (s : SheetModel) : Type 0 where
   pub rows : List ShownRowModel
   pub are_rows : AreShown options.by options.sort r.rows.items files rows
-  pub is : s ≡ sheet_of options r (view_of options.top rows (listed_files options.files files))
+  pub is : s ≡ sheet_of options attributes r (view_of options.top rows (listed_files options.files files))
 
--- a sheet of a report with these options
-pub record IsSheetOf (options : TableOptions) (r : Report) (s : SheetModel) : Type 0 where
+-- a sheet of a report with these options and these columns of attributes
+pub record IsSheetOf (options : TableOptions) (attributes : List (List ℕ)) (r : Report) (s : SheetModel) : Type 0 where
   pub files : List FileLineModel
   pub are_files : AreFilesSorted options.sort r.files.items files
-  pub has : HasFiles options r files s
+  pub has : HasFiles options attributes r files s

@@ -4,8 +4,7 @@ use Rattle.std.specs.{Cmp.Lexicographic.slice_cmp, List.{flat_map, range_with_le
 use Rattle.std.specs.{Ordering.{nat_cmp, on, then_cmp}, declared.cmp.Ordering.Ordering}
 use Rattle.lc_glob.specs.Bytes.{slash}
 use Rattle.lc_sheet.specs.declared.table_options.Columns.{Columns}
-use Rattle.lc_walk.specs.Key.{key_cmp}
-use Rattle.lc_rows.specs.{Directories.{above, directory_of, level_of, parent_of}, RowKeys.{RowKey, ShownRowModel, row_key}}
+use Rattle.lc_rows.specs.{Directories.{above, directory_of, level_of, parent_of}, RowKeys.{RowKey, ShownRowModel, file_key_cmp, row_key}}
 use Rattle.lc_rows.specs.ShownRows.{AreAddedUp, part_of_file}
 use Rattle.lc_level.specs.Level.{FileLineModel}
 
@@ -29,7 +28,7 @@ levels_above n path = min n (level_of (parent_of path))
 
 -- what a file adds to each directory above it, from the top directory down to the directory that holds it
 abbrev pub parts_above : ℕ → Columns → FileLineModel → List ShownRowModel
-parts_above n by f = map (λ level. part_of_file by level f) (range_with_len 0 (levels_above n f.path + 1))
+parts_above n by f = map (λ level. part_of_file by (Some level) f) (range_with_len 0 (levels_above n f.path + 1))
 
 abbrev pub tree_parts : ℕ → Columns → List FileLineModel → List ShownRowModel
 tree_parts n by fs = flat_map (parts_above n by) fs
@@ -43,7 +42,7 @@ path_cmp = slice_cmp (on byte_place nat_cmp)
 
 -- the order of the rows of a tree: by directory, depth first, and then by key
 unfoldable pub depth_first_cmp : RowKey → RowKey → Ordering
-depth_first_cmp = then_cmp (on (λ (k : RowKey). k.directory) (option_cmp path_cmp)) (on (λ (k : RowKey). k.key) key_cmp)
+depth_first_cmp = then_cmp (on (λ (k : RowKey). k.directory) (option_cmp path_cmp)) (on (λ (k : RowKey). k.key) file_key_cmp)
 
 -- a row for each directory that has files in it or below it, cut after n names, and for each key of such files, with the sums over these
 -- files, depth first

@@ -1,6 +1,6 @@
 -- Reports of walks, and the parts of them that meet conditions.
-use Rattle.std.specs.Prelude.{◌≡◌, ℕ, true, List, is_some, Ok}
-use Rattle.lc_sheet.specs.{Conditions.{ConditionModel, is_on_number}, declared.table_options.TableOptions.TableOptions}
+use Rattle.std.specs.Prelude.{◌≡◌, ℕ, true, List, Ok}
+use Rattle.lc_sheet.specs.{Conditions.{ConditionModel, is_on_files}, Keys.are_of_files, declared.table_options.TableOptions.TableOptions}
 use Rattle.lc_tree.specs.Trees.{Listings, Contents}
 use Rattle.lc_walk.specs.{Walks.Walks, declared.{options.{Options.Options, ReportLists.ReportLists}, report.Report.Report}}
 use Rattle.lc_rows.specs.Kept.{IsKept}
@@ -12,13 +12,13 @@ pub record IsOfWalk (lists : List ℕ → Listings) (gives : List ℕ → Conten
   pub walked : Walks lists gives o (Ok whole)
   pub kept : IsKept conditions whole r
 
--- a sheet by directory is made of the files, so the walk, and its report, must list them
+-- a sheet by directories or attributes is made of the files, so the walk, and its report, must list them
 abbrev pub HasFilesFor : TableOptions → ReportLists → Type 0
-HasFilesFor options lists = is_some options.by.dir ≡ true → lists.files ≡ true
+HasFilesFor options lists = are_of_files options.by ≡ true → lists.files ≡ true
 
 abbrev pub ListsFilesFor : Options → TableOptions → Type 0
 ListsFilesFor o options = HasFilesFor options o.lists
 
--- a condition on a number is tested on the files, so the walk must list them
+-- a condition on a number or an attribute is tested on the files, so the walk must list them
 abbrev pub ListsFilesToTest : Options → ConditionModel → Type 0
-ListsFilesToTest o c = is_on_number c ≡ true → o.lists.files ≡ true
+ListsFilesToTest o c = is_on_files c ≡ true → o.lists.files ≡ true

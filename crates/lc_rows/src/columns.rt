@@ -1,14 +1,15 @@
 //! The columns that each section of a sheet has in each format.
 
 ghost use Rattle.std.specs.Prelude.{◌≡◌, ◌++◌, if◌then◌else◌, [], IfOk, OnOk};
-ghost use Rattle.lc_rows.specs.SheetColumns.{column_if, file_columns, first_key, keeps_columns, key_columns, row_columns};
-ghost use Rattle.lc_rows.specs.SheetColumns.{share_columns, shows_key, skipped_columns, sums_columns};
-ghost use Rattle.std.specs.List.{find};
+ghost use Rattle.lc_rows.specs.SheetColumns.{attribute_columns, column_if, file_columns, first_key, keeps_columns, key_columns};
+ghost use Rattle.lc_rows.specs.SheetColumns.{row_columns, share_columns, shows_key, skipped_columns, sums_columns};
+ghost use Rattle.std.specs.List.{find, flat_map};
+ghost use Rattle.lc_sheet.specs.declared.column.Column.TheVariants as column;
 ghost use Rattle.std.specs.Option.{option_copied};
-ghost use Rattle.lc_sheet.specs.Keys.{keys};
+ghost use Rattle.lc_sheet.specs.Keys.{report_keys};
 ghost use Rattle.lc_sheet.specs.Sheets.{sheet_format};
 
-use lc_sheet::{Column, Columns, Format, KEYS, Key, Number, TableOptions};
+use lc_sheet::{Column, Columns, Format, Key, Number, REPORT_KEYS, TableOptions};
 use std::alloc::{AllocError, Global};
 
 /// The columns of the numbers of rows and sums.
@@ -29,7 +30,7 @@ const LISTED_FILES: [Column; 6] = [
     Column::Path,
 ];
 
-/// The columns of files in records, after those of the path and of the directory.
+/// The columns of files in records, after those of the path, of the directory and of attributes.
 const RECORDED_FILES: [Column; 6] = [
     Column::Key(Key::Ext),
     Column::Key(Key::Text),
@@ -71,18 +72,18 @@ pub fn push_if(columns: &mut Vec<Column>, kept: bool, column: Column) -> Result<
     Ok(())
 }
 
-/// Returns whether rows have the column of a key: all of these columns if `all` is true, and otherwise only those that rows are grouped by.
-/// The column of the directory is there only if rows are grouped by directory.
+/// Returns whether rows have the column of a key of a report's rows: all of these columns if `all` is true, and otherwise only those that
+/// rows are grouped by.
 fn shows_key(all: bool, by: Columns, key: Key) -> bool
     ensures { result ≡ shows_key all by key }
 {
-    by.has(key) || all && !matches!(key, Key::Dir)
+    all || by.has(key)
 }
 
 fn first_shown(all: bool, by: Columns) -> Option<&'static Key>
-    ensures { option_copied result ≡ find (shows_key all by) keys }
+    ensures { option_copied result ≡ find (shows_key all by) report_keys }
 {
-    KEYS.iter().find(|key| shows_key(all, by, **key))
+    REPORT_KEYS.iter().find(|key| shows_key(all, by, **key))
 }
 
 /// Returns the first key in whose column a format shows the values of rows, such as the extension. A line of sums shows its name in this
@@ -90,6 +91,12 @@ fn first_shown(all: bool, by: Columns) -> Option<&'static Key>
 pub fn first_key(format: Format, by: Columns) -> Key
     ensures { result ≡ first_key (keeps_columns format) by }
 {
+    if by.dir.is_some() {
+        return Key::Dir;
+    }
+    if by.attributes > 0 {
+        return Key::Attribute(0);
+    }
     match first_shown(keeps_columns(format), by) {
         Some(key) => *key,
         None => Key::Eol,
@@ -106,14 +113,33 @@ fn share_columns(format: Format) -> &'static [Column]
     }
 }
 
-/// Adds the columns of the rows' keys, as [`first_key`] chooses the first of them: all if `all` is true.
-pub fn push_keys(columns: &mut Vec<Column>, all: bool, by: Columns) -> Result<(), AllocError>
-    ensures { OnOk result (columns.new.items ≡ columns.old.items ++ key_columns all by) }
+/// Adds the columns of the attributes that rows are grouped by.
+pub fn push_attributes(columns: &mut Vec<Column>, by: Columns) -> Result<(), AllocError>
+    ensures { OnOk result (columns.new.items ≡ columns.old.items ++ attribute_columns by) }
 {
-    for key in &KEYS {
+    for place in 0..by.attributes {
+        columns.push(Column::Key(Key::Attribute(place)))?;
+    }
+    Ok(())
+}
+
+fn push_report_keys(columns: &mut Vec<Column>, all: bool, by: Columns) -> Result<(), AllocError>
+    ensures { OnOk result (columns.new.items
+        ≡ columns.old.items ++ flat_map (λ key. column_if (shows_key all by key) (column.Key key)) report_keys) }
+{
+    for key in &REPORT_KEYS {
         push_if(columns, shows_key(all, by, *key), Column::Key(*key))?;
     }
     Ok(())
+}
+
+/// Adds the columns of the rows' keys, as [`first_key`] chooses the first of them: all of a report's rows if `all` is true.
+pub fn push_keys(columns: &mut Vec<Column>, all: bool, by: Columns) -> Result<(), AllocError>
+    ensures { OnOk result (columns.new.items ≡ columns.old.items ++ key_columns all by) }
+{
+    push_if(columns, by.dir.is_some(), Column::Key(Key::Dir))?;
+    push_attributes(columns, by)?;
+    push_report_keys(columns, all, by)
 }
 
 fn push_shares(columns: &mut Vec<Column>, options: &TableOptions) -> Result<(), AllocError>
@@ -152,7 +178,7 @@ pub(crate) fn sums_columns(format: Format, rows: &[Column]) -> &[Column]
     }
 }
 
-/// Makes the columns of a list of files. In records, files have their directory if rows are by directory.
+/// Makes the columns of a list of files. In records, files have the directory and the attributes that rows are grouped by.
 pub(crate) fn file_columns(
     alloc: Global,
     format: Format,
@@ -165,6 +191,7 @@ pub(crate) fn file_columns(
         Format::Json | Format::Csv => {
             columns.push(Column::Path)?;
             push_if(&mut columns, by.dir.is_some(), Column::Key(Key::Dir))?;
+            push_attributes(&mut columns, by)?;
             columns.extend_from_slice(&RECORDED_FILES)?;
         }
         Format::Tsv | Format::Table | Format::Markdown => columns.extend_from_slice(&LISTED_FILES)?,

@@ -183,9 +183,9 @@ fn rows_with_files<'a>(
     by: Columns,
     depth: u32,
 ) -> Result<Vec<ShownRow<'a>>, AllocError>
-    ensures { IfOk result (λ rows. AreAddedUp (map (part_of_file by depth) files.entry.now) rows.items) }
+    ensures { IfOk result (λ rows. AreAddedUp (map (part_of_file by (Some depth)) files.entry.now) rows.items) }
 {
-    let parts = file_parts(alloc, files, by, depth)?;
+    let parts = file_parts(alloc, files, by, Some(depth))?;
     let rows = added_up(alloc, parts)?;
     Ok(rows)
 }
@@ -213,8 +213,9 @@ fn sort(rows: &mut Vec<ShownRow<'_>>)
 /// If rows are also grouped by other columns, a directory has a row for each key of the files in it and below it. The value of `by.dir`
 /// makes no difference. An error means that an allocation failed or that sums overflow.
 ///
-/// The function takes 56 bytes of memory for each file. The files of a directory are first added up in this directory, and only the sums are
-/// added to the directory above, after what all directories in this directory add to it. So a deep tree takes no more rows than a flat one.
+/// The function takes 72 bytes of memory for each file. The files of a directory are first added up in this directory, and only the sums
+/// are added to the directory above, after what all directories in this directory add to it. So a deep tree takes no more rows than a
+/// flat one.
 pub fn tree_rows<'a>(
     alloc: Global,
     files: &'a [FileLine],

@@ -52,7 +52,7 @@ fn shown_row(row: &TallyRow) -> ShownRow<'_>
     ensures { result ≡ part_of_row all_columns row.entry.now }
 {
     ShownRow {
-        key: RowKeyRef::of(None, row.key()),
+        key: RowKeyRef::of(None, &[], row.key()),
         sums: row.sums(),
     }
 }

@@ -2,6 +2,7 @@
 //!
 //! - `shown`: the rows of a table, summed over the columns that the table lacks, and sorted
 //! - `shown_row`, `row_key`: a row of a table, and its key
+//! - `states`: the order of states of attributes
 //! - `parts`, `adding_up`: the files or rows that a row of a table adds up, and adding these up
 //! - `directories`: the directories that hold files, and how their paths are cut
 //! - `directory_tree`, `depth_first`: the rows of a tree of directories, and their order
@@ -34,10 +35,11 @@ mod sheet_laws;
 mod shown;
 mod shown_row;
 mod shown_sheet;
+mod states;
 mod values;
 mod words;
 
-pub use columns::{first_key, keeps_columns, push_if, push_keys};
+pub use columns::{first_key, keeps_columns, push_attributes, push_if, push_keys};
 pub use cut::split_at_top;
 pub use directories::{directory_at, level_of, name_of, own_part};
 pub use directory_tree::tree_rows;

@@ -1,14 +1,18 @@
 //! The parts that the rows of a table add up: the rows of a report, or its files.
 
-ghost use Rattle.std.specs.Prelude.{◌≡◌, ◌++◌, map, IfOk, OnOk};
+ghost use Rattle.std.specs.Prelude.{◌≡◌, ◌++◌, map, option_map, take, IfOk, OnOk};
+ghost use Rattle.lc_level.specs.FileAttributes.{owned_state};
+ghost use Rattle.lc_rows.specs.Directories.{first_names};
 ghost use Rattle.lc_rows.specs.Parts.{sums_of_source};
 ghost use Rattle.lc_rows.specs.RowKeys.{row_key, row_with};
-ghost use Rattle.lc_rows.specs.ShownRows.{file_key, key_in, part_of_file, part_of_row, parts_of};
+ghost use Rattle.lc_rows.specs.ShownRows.{part_of_file, part_of_row, parts_of, tally_in};
 
+use crate::cut::split_at_top;
 use crate::directories::{first_names, split_path};
 use crate::row_key::RowKeyRef;
 use crate::shown_row::ShownRow;
 use lc_census::Eol;
+use lc_level::AttributeState;
 use lc_rules::TextState;
 use lc_sheet::Columns;
 use lc_walk::{FileLine, KeyRef, Sums, TallyRow, extension};
@@ -80,8 +84,8 @@ impl<'a, 's> Part<'a, 's> {
     }
 }
 
-fn key_in<'a>(by: Columns, key: KeyRef<'a>) -> KeyRef<'a>
-    ensures { result ≡ key_in by key.entry }
+fn tally_in<'a>(by: Columns, key: KeyRef<'a>) -> KeyRef<'a>
+    ensures { result ≡ tally_in by key.entry }
 {
     KeyRef {
         extension: if by.ext { key.extension } else { None },
@@ -98,17 +102,35 @@ fn row_part<'a>(by: Columns, row: &'a TallyRow) -> Part<'a, 'a>
     ensures { result ≡ part_of_row by row.now }
 {
     Part {
-        key: RowKeyRef::of(None, key_in(by, row.key())),
+        key: RowKeyRef::of(None, &[], tally_in(by, row.key())),
         source: Source::Row(row),
     }
 }
 
-/// Makes a part from a file, with the file's directory cut after `depth` names.
-fn file_part<'a>(by: Columns, depth: usize, file: &'a FileLine) -> Part<'a, 'a>
+/// Returns the path of a directory, cut after `depth` names, or none if there is no depth.
+fn cut_to(depth: Option<u32>, directory: &[u8]) -> Option<&[u8]>
+    ensures { option_map (λ cut. cut.now) result ≡ option_map (λ n. first_names n directory.entry.now) depth }
+{
+    match depth {
+        None => None,
+        Some(depth) => Some(first_names(depth as usize, directory)),
+    }
+}
+
+/// Returns the states of the attributes that rows are grouped by.
+fn first_states(by: Columns, file: &FileLine) -> &[AttributeState]
+    ensures { map owned_state result.now ≡ take by.attributes file.entry.now.asked }
+{
+    let (states, _) = split_at_top(Some(u32::from(by.attributes)), &file.attributes.asked);
+    states
+}
+
+/// Makes a part from a file, with the file's directory cut after `depth` names, if rows have directories.
+fn file_part<'a>(by: Columns, depth: Option<u32>, file: &'a FileLine) -> Part<'a, 'a>
     ensures { result ≡ part_of_file by depth file.now }
 {
     let (parent, name) = split_path(&file.path);
-    let key = key_in(
+    let key = tally_in(
         by,
         KeyRef {
             extension: extension(name),
@@ -117,7 +139,7 @@ fn file_part<'a>(by: Columns, depth: usize, file: &'a FileLine) -> Part<'a, 'a>
         },
     );
     Part {
-        key: RowKeyRef::of(Some(first_names(depth, parent)), key),
+        key: RowKeyRef::of(cut_to(depth, parent), first_states(by, file), key),
         source: Source::File(file),
     }
 }
@@ -136,18 +158,18 @@ fn row_parts<'a>(
     Ok(parts)
 }
 
-/// Makes a part from each file, with the file's directory cut after `depth` names.
+/// Makes a part from each file, with the file's directory cut after `depth` names, if rows have directories.
 pub(crate) fn file_parts<'a>(
     alloc: Global,
     files: &'a [FileLine],
     by: Columns,
-    depth: u32,
+    depth: Option<u32>,
 ) -> Result<Vec<Part<'a, 'a>>, AllocError>
     ensures { IfOk result (λ parts. parts.items ≡ map (part_of_file by depth) files.entry.now) }
 {
     let mut parts = Vec::with_capacity(alloc, files.len())?;
     for file in files {
-        parts.push(file_part(by, depth as usize, file))?;
+        parts.push(file_part(by, depth, file))?;
     }
     Ok(parts)
 }
@@ -177,10 +199,10 @@ pub(crate) fn shown_parts<'a, 's>(
     Ok(parts)
 }
 
-/// Makes the parts that the rows of a table add up: one for each file if rows are by directory, and otherwise one for each row of the
-/// report.
+/// Makes the parts that the rows of a table add up: one for each file if rows are by directories or attributes, and otherwise one for each
+/// row of the report.
 ///
-/// A part takes 56 bytes. Each path is cut once.
+/// A part takes 72 bytes. Each path is cut once.
 pub(crate) fn parts_of<'a>(
     alloc: Global,
     rows: &'a [TallyRow],
@@ -189,8 +211,9 @@ pub(crate) fn parts_of<'a>(
 ) -> Result<Vec<Part<'a, 'a>>, AllocError>
     ensures { IfOk result (λ parts. parts.items ≡ parts_of by rows.entry.now files.entry.now) }
 {
-    match by.dir {
-        None => row_parts(alloc, rows, by),
-        Some(depth) => file_parts(alloc, files, by, depth),
+    if by.are_of_files() {
+        file_parts(alloc, files, by, by.dir)
+    } else {
+        row_parts(alloc, rows, by)
     }
 }

@@ -1,18 +1,21 @@
 //! The key of a row of a table, and the order of keys.
 
-ghost use Rattle.std.specs.Prelude.{◌≡◌, option_map};
+ghost use Rattle.std.specs.Prelude.{◌≡◌, map, option_map};
 ghost use Rattle.std.specs.Option.{option_cmp};
 ghost use Rattle.lc_tree.specs.ByteOrder.{bytes_cmp};
 ghost use Rattle.lc_sheet.specs.Values.{value_model};
 ghost use Rattle.lc_sheet.specs.declared.key.Key.TheVariants.{Dir, Ext};
 ghost use Rattle.lc_walk.specs.Key.{key_cmp};
 ghost use Rattle.lc_rows.specs.Kinds.{key_value};
-ghost use Rattle.lc_rows.specs.RowKeys.{row_key_cmp};
+ghost use Rattle.lc_level.specs.FileAttributes.{owned_state};
+ghost use Rattle.lc_rows.specs.RowKeys.{file_key_cmp, row_key_cmp};
 ghost use Rattle.lc_rows.specs.TreeRows.{depth_first_cmp, path_cmp};
 
 use crate::depth_first::compare_paths;
-use crate::values::{directory_in, extension_value, text_value};
+use crate::states::compare_states;
+use crate::values::{directory_in, extension_value, state_value, text_value};
 use lc_census::Eol;
+use lc_level::AttributeState;
 use lc_rules::TextState;
 use lc_sheet::{Key, Value};
 use lc_walk::{KeyRef, eol_rank, text_rank};
@@ -25,6 +28,8 @@ pub struct RowKeyRef<'a> {
     /// The directory that holds the files, or one above it, if rows are by directory. Its path may be cut after some names. The path of the
     /// top directory is empty.
     pub directory: Option<&'a [u8]>,
+    /// The states of the attributes by which rows are grouped, in the order of the columns.
+    pub attributes: &'a [AttributeState],
     /// The extension of the files' names, if they have one and rows are by extension.
     pub extension: Option<&'a [u8]>,
     /// The state of the Git attribute `text` for the files, or `Unspecified` if rows are not by this state.
@@ -34,24 +39,36 @@ pub struct RowKeyRef<'a> {
 }
 
 impl<'a> Model for RowKeyRef<'a> {
-    ghost use Rattle.std.specs.Prelude.{option_map};
+    ghost use Rattle.std.specs.Prelude.{map, option_map};
+    ghost use Rattle.lc_level.specs.FileAttributes.{owned_state};
     ghost use Rattle.lc_rows.specs.RowKeys.{RowKey};
 
     ghost Value = { RowKey };
 
     ghost view = { λ k. record {
       directory = option_map (λ s. s.now) k.directory;
-      key = record { extension = option_map (λ s. s.now) k.extension; text = k.text; eol = k.eol };
+      key = record {
+        attributes = map owned_state k.attributes.now;
+        tally = record { extension = option_map (λ s. s.now) k.extension; text = k.text; eol = k.eol };
+      };
     } };
 }
 
 impl<'a> RowKeyRef<'a> {
-    /// Makes the key of a row from a directory and from a key of the tally.
-    pub(crate) fn of(directory: Option<&'a [u8]>, key: KeyRef<'a>) -> RowKeyRef<'a>
-        ensures { result ≡ record { directory = option_map (λ s. s.now) directory.entry; key = key.entry } }
+    /// Makes the key of a row from a directory, the states of attributes, and a key of the tally.
+    pub(crate) fn of(
+        directory: Option<&'a [u8]>,
+        attributes: &'a [AttributeState],
+        key: KeyRef<'a>,
+    ) -> RowKeyRef<'a>
+        ensures { result ≡ record {
+          directory = option_map (λ s. s.now) directory.entry;
+          key = record { attributes = map owned_state attributes.entry.now; tally = key.entry };
+        } }
     {
         RowKeyRef {
             directory,
+            attributes,
             extension: key.extension,
             text: key.text,
             eol: key.eol,
@@ -64,6 +81,7 @@ impl<'a> RowKeyRef<'a> {
     {
         RowKeyRef {
             directory: self.directory,
+            attributes: self.attributes,
             extension: self.extension,
             text: self.text,
             eol: self.eol,
@@ -90,6 +108,7 @@ impl<'a> RowKeyRef<'a> {
     {
         match key {
             Key::Dir => self.directory_value(),
+            Key::Attribute(place) => state_value(self.attributes, place),
             Key::Ext => self.extension_value(),
             Key::Text => text_value(self.text),
             Key::Eol => Value::Word(self.eol.as_str()),
@@ -113,9 +132,17 @@ impl<'a> RowKeyRef<'a> {
     }
 
     /// Compares two keys by all columns but the directory.
-    #[tactic(auto, unfolding(lc_walk::specs::Key::key_cmp))]
+    #[tactic(auto, unfolding(crate::specs::RowKeys::file_key_cmp))]
     fn compare_columns(&self, other: &RowKeyRef<'_>) -> Ordering
-        ensures { result ≡ key_cmp self.now.key other.now.key }
+        ensures { result ≡ file_key_cmp self.now.key other.now.key }
+    {
+        compare_states(self.attributes, other.attributes).then(self.compare_tally(other))
+    }
+
+    /// Compares two keys by the columns of a report's rows.
+    #[tactic(auto, unfolding(lc_walk::specs::Key::key_cmp))]
+    fn compare_tally(&self, other: &RowKeyRef<'_>) -> Ordering
+        ensures { result ≡ key_cmp self.now.key.tally other.now.key.tally }
     {
         compare_bytes(self.extension, other.extension)
             .then(text_rank(self.text).cmp(&text_rank(other.text)))

@@ -31,7 +31,7 @@ fn summed<'a>(
 /// Adds up a report's counts into one row for each key in the columns `by`, in the order of keys. Even if `by` has all columns, rows with
 /// the same key are added up.
 ///
-/// Rows by directory are sums over `files`, which the report must have, and all other rows are sums over `rows`. An error means that an
+/// Rows by directories or attributes are sums over `files`, which the report must have, and all others over `rows`. An error means that an
 /// allocation failed or that sums overflow. The sums of a walk's rows never overflow.
 pub fn added_rows<'a>(
     alloc: Global,
@@ -76,9 +76,9 @@ fn sort(by: Number, rows: &mut Vec<ShownRow<'_>>)
 
 /// Adds up a report's counts over the columns that `by` lacks, and sorts the rows if the table is sorted by a number.
 ///
-/// Rows by directory are sums over `files`, which the report must have, and all other rows are sums over `rows`. If `by` is `Columns::ALL`,
-/// the rows are not added up, and unsorted rows keep the order of the report. An error means that an allocation failed or that sums
-/// overflow. The sums of a walk's rows never overflow.
+/// Rows by directories or attributes are sums over `files`, which the report must have, and all others over `rows`. If `by` is
+/// `Columns::ALL`, the rows are not added up, and unsorted rows keep the order of the report. An error means that an allocation failed or
+/// that sums overflow. The sums of a walk's rows never overflow.
 pub fn shown_rows<'a>(
     alloc: Global,
     rows: &'a [TallyRow],

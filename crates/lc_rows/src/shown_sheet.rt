@@ -13,7 +13,9 @@ use crate::cut::{split_at_top, sums_of_some};
 use crate::kinds::{Faults, Files, NamedSums, Rows, Skipped, Totals};
 use crate::shown::{number_in, shown_rows};
 use crate::shown_row::ShownRow;
-use lc_sheet::{Column, Form, Format, Number, Section, Shares, Sheet, TableOptions};
+use lc_sheet::{
+    AttributeColumn, Column, Form, Format, Number, Section, Shares, Sheet, TableOptions,
+};
 use lc_walk::{ClassSums, FileLine, Report, Sums};
 use std::alloc::{AllocError, Global};
 use std::marker::Model;
@@ -27,6 +29,7 @@ pub type ReportSheet<'a> = Sheet<'a, Rows<'a>, Totals, Files, Skipped, Faults>;
 pub struct Shown<'a> {
     format: Format,
     form: Form,
+    attributes: &'a [AttributeColumn],
     columns: Vec<Column>,
     file_columns: Vec<Column>,
     rows: Vec<ShownRow<'a>>,
@@ -47,6 +50,7 @@ impl<'a> Model for Shown<'a> {
     ghost view = { λ s. sheet_with (record {
       format = s.format;
       form = s.form;
+      attributes = s.attributes.now;
       columns = s.columns.items;
       file_columns = s.file_columns.items;
       rows = s.rows.items;
@@ -155,19 +159,21 @@ fn listed_files(listed: bool, files: &[FileLine]) -> &[FileLine]
 impl<'a> Shown<'a> {
     /// Sums, sorts and cuts the rows of a report, and adds up the rows that are cut off.
     ///
-    /// Rows by directory are sums over the files, which the report must have. The sheet lists files in the order of the report, so the
+    /// The columns of attributes have the names in `attributes`, in whose order files have their states. Rows by directories or attributes
+    /// are sums over the files, which the report must have. The sheet lists files in the order of the report, so the
     /// caller sorts them before, with [`sort_files`](crate::sort_files). An error means that an allocation failed or that sums overflow.
     /// The sums of a walk's rows never overflow.
     pub fn of(
         alloc: Global,
         report: &'a Report,
         options: &TableOptions,
+        attributes: &'a [AttributeColumn],
     ) -> Result<Shown<'a>, AllocError>
         requires files { HasFilesFor options.now report.now.lists }
-        ensures { IfOk result (λ shown. HasFiles options.now report.entry.now report.entry.now.files.items shown) }
+        ensures { IfOk result (λ shown. HasFiles options.now attributes.entry.now report.entry.now report.entry.now.files.items shown) }
     {
         let rows = shown_rows(alloc, &report.rows, &report.files, options.by, options.sort)?;
-        let shown = Shown::with_rows(alloc, report, options, rows)?;
+        let shown = Shown::with_rows(alloc, report, options, attributes, rows)?;
         Ok(shown)
     }
 
@@ -177,9 +183,10 @@ impl<'a> Shown<'a> {
         alloc: Global,
         report: &'a Report,
         options: &TableOptions,
+        attributes: &'a [AttributeColumn],
         rows: Vec<ShownRow<'a>>,
     ) -> Result<Shown<'a>, AllocError>
-        ensures { IfOk result (λ shown. shown ≡ sheet_of options.now report.entry.now
+        ensures { IfOk result (λ shown. shown ≡ sheet_of options.now attributes.entry.now report.entry.now
             (view_of options.now.top rows.entry.items (listed_files options.now.files report.entry.now.files.items))) }
     {
         let mut rows = rows;
@@ -190,6 +197,7 @@ impl<'a> Shown<'a> {
         let shown = Shown {
             format,
             form: form_of(options, report.totals, &rows),
+            attributes,
             columns: row_columns(alloc, options)?,
             file_columns: file_columns(alloc, format, options.by)?,
             rows,
@@ -218,7 +226,7 @@ impl<'a> Shown<'a> {
     {
         if self.lists_files {
             let files = Section::new(self.form, &self.file_columns, self.files);
-            Some(files.tagged("file"))
+            Some(files.with_attributes(self.attributes).tagged("file"))
         } else {
             None
         }
@@ -240,9 +248,10 @@ impl<'a> Shown<'a> {
         ensures { result ≡ self.entry.now }
     {
         let sums_columns = sums_columns(self.format, &self.columns);
+        let rows = Section::new(self.form, &self.columns, &self.rows);
         let faults = Section::new(self.form, &LISTED_FAULTS, &self.report.faults);
         Sheet {
-            rows: Section::new(self.form, &self.columns, &self.rows),
+            rows: rows.with_attributes(self.attributes),
             others: Section::new(self.form, sums_columns, &self.others),
             totals: Section::new(self.form, sums_columns, &self.totals),
             compares: false,

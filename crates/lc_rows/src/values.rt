@@ -1,10 +1,13 @@
 //! Values of columns that several kinds of lines share, such as rows and files.
 
-ghost use Rattle.std.specs.Prelude.{◌≡◌, option_map};
+ghost use Rattle.std.specs.Prelude.{◌≡◌, map, option_map};
 ghost use Rattle.lc_sheet.specs.Values.{value_model};
-ghost use Rattle.lc_rows.specs.Kinds.{bar_value, bytes_value, directory_in, directory_value, extension_value, share_value, text_value};
+ghost use Rattle.lc_rows.specs.Kinds.{bar_value, bytes_value, directory_in, directory_value, extension_value, share_value, state_at};
+ghost use Rattle.lc_rows.specs.Kinds.{state_value, text_value};
+ghost use Rattle.lc_level.specs.FileAttributes.{owned_state};
 
 use crate::shown::number_in;
+use lc_level::AttributeState;
 use lc_rules::TextState;
 use lc_sheet::{Shares, Value};
 use lc_text::Name;
@@ -68,6 +71,18 @@ pub(crate) fn text_value<'l>(text: TextState) -> Value<'l>
     match text.word() {
         None => Value::Missing,
         Some(word) => Value::Word(word),
+    }
+}
+
+/// Makes the value of the attribute at this place among the ones whose states these are. An attribute without a state here is unspecified.
+pub(crate) fn state_value(states: &[AttributeState], place: u8) -> Value<'_>
+    ensures { value_model result ≡ state_value (state_at (map owned_state states.entry.now) place) }
+{
+    match states.get(usize::from(place)) {
+        None | Some(AttributeState::Unspecified) => Value::Missing,
+        Some(AttributeState::Set) => Value::Flag(true),
+        Some(AttributeState::Unset) => Value::Flag(false),
+        Some(AttributeState::Value(bytes)) => bytes_value(bytes),
     }
 }
 

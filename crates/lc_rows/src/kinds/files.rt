@@ -8,7 +8,7 @@ ghost use Rattle.lc_rows.specs.ShownRows.{whole_key};
 
 use crate::directories::{directory_at, name_of};
 use crate::files::number_of;
-use crate::values::{directory_in, extension_value, text_value};
+use crate::values::{directory_in, extension_value, state_value, text_value};
 use lc_sheet::{Column, Form, Key, Lines, Value};
 use lc_walk::{FileLine, extension};
 
@@ -32,6 +32,7 @@ fn key_value(file: &FileLine, depth: Option<u32>, key: Key) -> Value<'_>
 {
     match key {
         Key::Dir => directory_in(directory_to(depth, &file.path)),
+        Key::Attribute(place) => state_value(&file.attributes.asked, place),
         Key::Ext => extension_value(extension(name_of(&file.path))),
         Key::Text => text_value(file.text()),
         Key::Eol => Value::Word(file.count.eol.as_str()),

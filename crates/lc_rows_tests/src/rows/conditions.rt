@@ -1,5 +1,7 @@
 //! The part of a report that meets conditions: its files, rows and sums.
 
+ghost use Rattle.std.specs.Prelude.{◌≡◌, true, IfOk};
+
 use crate::rows::files::{File, NONE, file_lines};
 use lc_census::Eol;
 use lc_rows::{keep, name_of};
@@ -17,8 +19,10 @@ const FILES: &[File] = &[
     (b"test/rows.c", NONE, Eol::Lf, [3, 1, 15]),
 ];
 
-fn report(alloc: Global) -> Result<Report, AllocError> {
-    let files = file_lines(alloc, FILES)?;
+/// Makes a report that lists these files.
+pub(super) fn report_of(alloc: Global, files: Vec<FileLine>) -> Result<Report, AllocError>
+    ensures { IfOk result (λ report. report.lists.files ≡ true) }
+{
     let mut tally = Tally::new(alloc);
     for file in &files {
         if tally.totals().files >= 512 {
@@ -50,7 +54,7 @@ fn push_files(text: &mut String, files: &[FileLine]) -> Result<(), AllocError> {
 
 /// Returns what meets conditions as text: the paths of the files, the lines of each row, and the totals.
 fn kept(alloc: Global, conditions: &[Condition<'_>]) -> Result<String, AllocError> {
-    let mut report = report(alloc)?;
+    let mut report = report_of(alloc, file_lines(alloc, FILES)?)?;
     keep(alloc, conditions, &mut report)?;
     let mut text = String::new(alloc);
     push_files(&mut text, &report.files)?;

@@ -7,7 +7,7 @@ use lc_census::Eol;
 use lc_level::{FaultWord, Reason};
 use lc_rows::{ReportSheet, Shown};
 use lc_rules::{RuleSource, TextState};
-use lc_sheet::{Columns, Format, Lines, Number, Output, Section, TableOptions, Value};
+use lc_sheet::{Columns, Format, Lines, Number, Output, Section, TableOptions, Value, flag_word};
 use lc_text::push_name;
 use lc_tree::Kind;
 use lc_walk::{ClassSums, FaultLine, Report, ReportLists, SkippedLine};
@@ -107,6 +107,7 @@ fn push_value(text: &mut Vec<u8>, value: Value<'_>) -> Result<(), AllocError> {
         Value::Summed => text.extend_from_slice(b"*"),
         Value::Blank => text.extend_from_slice(b"!"),
         Value::Word(word) => text.extend_from_slice(word.as_bytes()),
+        Value::Flag(is_set) => text.extend_from_slice(flag_word(is_set).as_bytes()),
         Value::Name(name) => push_name(text, name),
         Value::Path(path) => text.extend_from_slice(path),
         Value::Number(number) => write!(text, "{number}").map_err(|_| AllocError),
@@ -117,7 +118,10 @@ fn push_value(text: &mut Vec<u8>, value: Value<'_>) -> Result<(), AllocError> {
     }
 }
 
-fn push_section<L: Lines>(text: &mut Vec<u8>, section: &Section<'_, L>) -> Result<(), AllocError> {
+pub(super) fn push_section<L: Lines>(
+    text: &mut Vec<u8>,
+    section: &Section<'_, L>,
+) -> Result<(), AllocError> {
     let (form, columns, lines) = section.parts();
     for line in lines {
         for column in columns {
@@ -147,7 +151,7 @@ fn push_sheet(text: &mut Vec<u8>, sheet: &ReportSheet<'_>) -> Result<(), AllocEr
 
 fn text_of(alloc: Global, options: &TableOptions) -> Result<Vec<u8>, AllocError> {
     let report = report(alloc)?;
-    let shown = Shown::of(alloc, &report, options)?;
+    let shown = Shown::of(alloc, &report, options, &[])?;
     let mut text = Vec::new(alloc);
     push_sheet(&mut text, &shown.sheet())?;
     Ok(text)
@@ -167,7 +171,7 @@ fn shows_classes(alloc: Global, text: u64, binary: u64) -> Result<bool, AllocErr
         text: sums([text, 11, 1, 59]),
         binary: sums([binary, 3, 1, 15]),
     };
-    let shown = Shown::of(alloc, &report, &TSV)?;
+    let shown = Shown::of(alloc, &report, &TSV, &[])?;
     Ok(shown.sheet().some_binary)
 }
 

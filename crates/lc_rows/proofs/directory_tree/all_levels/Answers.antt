@@ -1,4 +1,4 @@
-use Rattle.std.proofs.Common.{rules, arith, ◌≡◌, ◌∙◌, ◌+◌, ◌-◌, ◌++◌, List, ap, append_assoc, drop, length, length-drop, map, subst, sym}
+use Rattle.std.proofs.Common.{arith, ◌≡◌, ◌∙◌, ◌+◌, ◌-◌, ◌++◌, List, ap, append_assoc, drop, length, length-drop, map, subst, sym}
 use Rattle.std.proofs.{Common.take, lemmas.List.{drop-drop, take-append-drop, take_rest, Sorted.IsNonDecreasingBy-drop}}
 use Rattle.std.specs.List.{flat_map}
 use Rattle.lc_rows.specs.{LevelParts.{height, next_above, own_row}, RowKeys.ShownRowModel, ShownRows.AreAddedUp}
@@ -6,8 +6,11 @@ use Rattle.lc_rows.proofs.Above.{IsRaised, raised_first, raised_more, raised_all
 use Rattle.lc_rows.proofs.directory_tree.all_levels.Goals as goal
 
 pub levels-init : goal.levels-init
-levels-init c =
-    (rw (c.new-all.ensures.items, c.new-raised.ensures.items) (raised_first c.args.depth c.args.rows.now c.requires), omega arith, omega arith)
+levels-init c = (
+  rw (c.new-all.ensures.items, c.new-raised.ensures.items) (raised_first c.args.depth c.args.rows.now c.requires),
+  omega arith,
+  omega arith,
+)
 
 pub levels-preserved : goal.levels-preserved
 levels-preserved c =

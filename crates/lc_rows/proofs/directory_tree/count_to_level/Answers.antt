@@ -1,4 +1,4 @@
-use Rattle.std.proofs.Common.{rules, arith, ◌<◌, ◌+◌, ◌-◌, leb, leb-false, drop, length, length-drop, slice_index_or, subst, sym}
+use Rattle.std.proofs.Common.{rules, arith, ◌<◌, ◌+◌, ◌-◌, leb, leb-false, drop, length-drop, slice_index_or, subst, sym}
 use Rattle.std.proofs.lemmas.List.{get_or-drop, Sorted.{IsPartitionPoint-from_clause, IsPartitionedBy-leb}}
 use Rattle.lc_rows.specs.{LevelParts.{height, level_to}, RowKeys.{ShownRowModel, row_key}}
 use Rattle.lc_rows.proofs.Above.{below_from}

@@ -14,7 +14,8 @@ returns c =
     let others = c.in_ok-others.ensures
     ∙ ap (λ (rs : List ShownRowModel). sums_of_some (rest_of options.top rs)) c.deref-2.ensures.value in
     let format = c.sheet_format-format.ensures in
-    rw format (made options report (view_of options.top rows (listed_files options.files report.files.items)) c.form_of.result
+    rw format (made options c.args.attributes.now report (view_of options.top rows (listed_files options.files report.files.items))
+    c.form_of.result
     c.in_ok-row_columns.field-0.items c.in_ok-file_columns.field-0.items c.cut.new.rows.items c.in_ok-others_lines.field-0.items
     c.in_ok-totals_lines.field-0.items c.split_at_top.result.0.now is_form c.in_ok-row_columns.ensures
     (c.in_ok-file_columns.ensures ∙ ap (λ f. file_columns f options.by) format) c.cut.ensures
