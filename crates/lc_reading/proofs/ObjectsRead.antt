@@ -1,5 +1,6 @@
 -- The members of an object that is read member by member.
 use Rattle.std.proofs.Common.{◌≡◌, ◌≢◌, ◌∙◌, ℕ, Bool, true, false, cond, List, [], ◌∷◌, ◌++◌, refl, sym, ap, subst, append_assoc, Option}
+use Rattle.std.proofs.{Common.append-nil, lemmas.List.Concat.flat_map-append}
 use Rattle.std.proofs.{Common.{Some, None, option_map, inl, inr}, lemmas.{Slice.Eq.bytes_eq-Decides, Bool.false_from_ne_true}}
 use Rattle.std.specs.{Borrow.Bor, Str.bytes_eq, Global.Global, Prelude.{◌⊎◌, OnOk, is_some, Result, Ok, Err, Vec}, List.flat_map}
 use Rattle.lc_level.specs.{FaultLines.FaultLineModel, Level.{FileLineModel, SkippedLineModel}}
@@ -107,22 +108,25 @@ stepped : {L : Type 0} (Says : List Member → L → Type 0) (n : MemberName) (m
 stepped Says n ms k j old new (inl kept) is =
     subst (MayHaveLines Says n (ms ++ (k, j) ∷ [])) (sym kept.1) (lines_kept Says n ms k j old kept.0 is)
 stepped Says n ms k j old new (inr filled) is =
-    subst (MayHaveLines Says n (ms ++ (k, j) ∷ [])) (sym filled.2.1) (lines_filled Says n ms k j old filled.2.0 filled.0 filled.1 is filled.2.2)
+    subst (MayHaveLines Says n (ms ++ (k, j) ∷ [])) (sym filled.2.1)
+    (lines_filled Says n ms k j old filled.2.0 filled.0 filled.1 is filled.2.2)
 
 -- a member was read: each list takes its step, and the values are those of the members
-member_taken : (k : List ℕ) (old new : Object) (before after : List Token) (j : Json) → before ≡ json_tokens j ++ after
+member_taken : (attributes : List (List ℕ)) (k : List ℕ) (old new : Object) (before after : List Token) (j : Json)
+    → before ≡ json_tokens j ++ after
     → ((ms : List Member) (n : MemberName) → is_value n ≡ true → named n (members_of old.values.items) ≡ named n ms
     → named n (members_of new.values.items) ≡ named n (ms ++ (k, j) ∷ []))
-    → Step IsRowOf name.Rows k j (items old.rows) (items new.rows) → Step IsFileOf name.Files k j (items old.files) (items new.files)
+    → Step IsRowOf name.Rows k j (items old.rows) (items new.rows) → Step (IsFileOf attributes) name.Files k j (items old.files)
+    (items new.files)
     → Step IsSkippedOf name.Left k j (items old.skipped) (items new.skipped)
-    → Step IsFaultOf name.Faults k j (items old.faults) (items new.faults) → TakesMember k old new before after
-member_taken k old new before after j tokens values rows files skipped faults = record {
+    → Step IsFaultOf name.Faults k j (items old.faults) (items new.faults) → TakesMember attributes k old new before after
+member_taken attributes k old new before after j tokens values rows files skipped faults = record {
   value = j;
   tokens_are = tokens;
   adds = λ ms o. record {
     values = λ n is. values ms n is (o.values n is);
     rows = stepped IsRowOf name.Rows ms k j (items old.rows) (items new.rows) rows o.rows;
-    files = stepped IsFileOf name.Files ms k j (items old.files) (items new.files) files o.files;
+    files = stepped (IsFileOf attributes) name.Files ms k j (items old.files) (items new.files) files o.files;
     skipped = stepped IsSkippedOf name.Left ms k j (items old.skipped) (items new.skipped) skipped o.skipped;
     faults = stepped IsFaultOf name.Faults ms k j (items old.faults) (items new.faults) faults o.faults;
   };
@@ -139,41 +143,49 @@ values_kept : (k : List ℕ) (vs : List Member) (j : Json) → Apart k → (ms :
     → named n vs ≡ named n ms → named n vs ≡ named n (ms ++ (k, j) ∷ [])
 values_kept k vs j differ ms n is same = same ∙ sym (kept (member_name n) ms k j (differ n is))
 
-pub rows_filled : (k : List ℕ) → k ≡ member_name name.Rows → (old : Object) (rows : Option (Vec ReadRow Global)) (before after : List Token)
-    → Fills IsRowOf old.rows rows before after → TakesMember k old (record old { rows = rows }) before after
-rows_filled k e old rows before after f =
-    member_taken k old (record old { rows = rows }) before after f.begins.value f.begins.tokens_are
-    (values_kept k (members_of old.values.items) f.begins.value (apart (member_name name.Rows) (refl, (refl, (refl, (refl, (refl, (refl, tt)))))) k e))
+pub rows_filled : (attributes : List (List ℕ)) (k : List ℕ) → k ≡ member_name name.Rows → (old : Object) (rows : Option
+    (Vec ReadRow Global)) (before after : List Token)
+    → Fills IsRowOf old.rows rows before after → TakesMember attributes k old (record old { rows = rows }) before after
+rows_filled attributes k e old rows before after f =
+    member_taken attributes k old (record old { rows = rows }) before after f.begins.value f.begins.tokens_are
+    (values_kept k (members_of old.values.items) f.begins.value
+    (apart (member_name name.Rows) (refl, (refl, (refl, (refl, (refl, (refl, tt)))))) k e))
     (list_filled IsRowOf name.Rows k e old.rows rows before after f)
     (inl (other_than k (member_name name.Rows) (member_name name.Files) e refl, refl))
     (inl (other_than k (member_name name.Rows) (member_name name.Left) e refl, refl))
     (inl (other_than k (member_name name.Rows) (member_name name.Faults) e refl, refl))
 
-pub files_filled : (k : List ℕ) → k ≡ member_name name.Files → (old : Object) (files : Option (Vec FileLineModel Global)) (before after : List Token)
-    → Fills IsFileOf old.files files before after → TakesMember k old (record old { files = files }) before after
-files_filled k e old files before after f =
-    member_taken k old (record old { files = files }) before after f.begins.value f.begins.tokens_are
-    (values_kept k (members_of old.values.items) f.begins.value (apart (member_name name.Files) (refl, (refl, (refl, (refl, (refl, (refl, tt)))))) k e))
+pub files_filled : (attributes : List (List ℕ)) (k : List ℕ) → k ≡ member_name name.Files → (old : Object) (files : Option
+    (Vec FileLineModel Global)) (before after : List Token)
+    → Fills (IsFileOf attributes) old.files files before after → TakesMember attributes k old (record old { files = files }) before after
+files_filled attributes k e old files before after f =
+    member_taken attributes k old (record old { files = files }) before after f.begins.value f.begins.tokens_are
+    (values_kept k (members_of old.values.items) f.begins.value
+    (apart (member_name name.Files) (refl, (refl, (refl, (refl, (refl, (refl, tt)))))) k e))
     (inl (other_than k (member_name name.Files) (member_name name.Rows) e refl, refl))
-    (list_filled IsFileOf name.Files k e old.files files before after f)
+    (list_filled (IsFileOf attributes) name.Files k e old.files files before after f)
     (inl (other_than k (member_name name.Files) (member_name name.Left) e refl, refl))
     (inl (other_than k (member_name name.Files) (member_name name.Faults) e refl, refl))
 
-pub skipped_filled : (k : List ℕ) → k ≡ member_name name.Left → (old : Object) (skipped : Option (Vec SkippedLineModel Global)) (before after : List Token)
-    → Fills IsSkippedOf old.skipped skipped before after → TakesMember k old (record old { skipped = skipped }) before after
-skipped_filled k e old skipped before after f =
-    member_taken k old (record old { skipped = skipped }) before after f.begins.value f.begins.tokens_are
-    (values_kept k (members_of old.values.items) f.begins.value (apart (member_name name.Left) (refl, (refl, (refl, (refl, (refl, (refl, tt)))))) k e))
+pub skipped_filled : (attributes : List (List ℕ)) (k : List ℕ) → k ≡ member_name name.Left → (old : Object) (skipped : Option
+    (Vec SkippedLineModel Global)) (before after : List Token)
+    → Fills IsSkippedOf old.skipped skipped before after → TakesMember attributes k old (record old { skipped = skipped }) before after
+skipped_filled attributes k e old skipped before after f =
+    member_taken attributes k old (record old { skipped = skipped }) before after f.begins.value f.begins.tokens_are
+    (values_kept k (members_of old.values.items) f.begins.value
+    (apart (member_name name.Left) (refl, (refl, (refl, (refl, (refl, (refl, tt)))))) k e))
     (inl (other_than k (member_name name.Left) (member_name name.Rows) e refl, refl))
     (inl (other_than k (member_name name.Left) (member_name name.Files) e refl, refl))
     (list_filled IsSkippedOf name.Left k e old.skipped skipped before after f)
     (inl (other_than k (member_name name.Left) (member_name name.Faults) e refl, refl))
 
-pub faults_filled : (k : List ℕ) → k ≡ member_name name.Faults → (old : Object) (faults : Option (Vec FaultLineModel Global)) (before after : List Token)
-    → Fills IsFaultOf old.faults faults before after → TakesMember k old (record old { faults = faults }) before after
-faults_filled k e old faults before after f =
-    member_taken k old (record old { faults = faults }) before after f.begins.value f.begins.tokens_are
-    (values_kept k (members_of old.values.items) f.begins.value (apart (member_name name.Faults) (refl, (refl, (refl, (refl, (refl, (refl, tt)))))) k e))
+pub faults_filled : (attributes : List (List ℕ)) (k : List ℕ) → k ≡ member_name name.Faults
+    → (old : Object) (faults : Option (Vec FaultLineModel Global)) (before after : List Token)
+    → Fills IsFaultOf old.faults faults before after → TakesMember attributes k old (record old { faults = faults }) before after
+faults_filled attributes k e old faults before after f =
+    member_taken attributes k old (record old { faults = faults }) before after f.begins.value f.begins.tokens_are
+    (values_kept k (members_of old.values.items) f.begins.value
+    (apart (member_name name.Faults) (refl, (refl, (refl, (refl, (refl, (refl, tt)))))) k e))
     (inl (other_than k (member_name name.Faults) (member_name name.Rows) e refl, refl))
     (inl (other_than k (member_name name.Faults) (member_name name.Files) e refl, refl))
     (inl (other_than k (member_name name.Faults) (member_name name.Left) e refl, refl))
@@ -194,11 +206,12 @@ list_apart l all n is k e =
     ap (λ (s : List ℕ). bytes_eq s l) e ∙ each_of (λ n. bytes_eq (member_name n) l ≡ false) value_names all n (value_in n is)
 
 -- a member that is no list was read
-pub small_taken : (n : MemberName) → is_value n ≡ true → (k : List ℕ) → k ≡ member_name n → (old : Object)
+pub small_taken : (attributes : List (List ℕ)) (n : MemberName) → is_value n ≡ true → (k : List ℕ) → k ≡ member_name n → (old : Object)
     (values : Vec (Bor (List ℕ) × Value Global) Global) (before after : List Token) (j : Json) → before ≡ json_tokens j ++ after
-    → members_of values.items ≡ members_of old.values.items ++ (k, j) ∷ [] → TakesMember k old (record old { values = values }) before after
-small_taken n is k e old values before after j tokens pushed =
-    member_taken k old (record old { values = values }) before after j tokens
+    → members_of values.items ≡ members_of old.values.items ++ (k, j) ∷ [] → TakesMember attributes k old
+    (record old { values = values }) before after
+small_taken attributes n is k e old values before after j tokens pushed =
+    member_taken attributes k old (record old { values = values }) before after j tokens
     (λ ms m is_m same. ap (λ (s : List Member). named m s) pushed ∙ values_more (member_name m) (members_of old.values.items) k j
     ∙ same_rest _ _ (bytes_eq k (member_name m)) j same ∙ sym (values_more (member_name m) ms k j))
     (inl (list_apart (member_name name.Rows) (refl, (refl, (refl, (refl, (refl, (refl, tt)))))) n is k e, refl))
@@ -207,10 +220,11 @@ small_taken n is k e old values before after j tokens pushed =
     (inl (list_apart (member_name name.Faults) (refl, (refl, (refl, (refl, (refl, (refl, tt)))))) n is k e, refl))
 
 -- a member was passed over
-pub other_taken : (k : List ℕ) → IsTopMember k Other → (o : Object) (before after : List Token) → IsPassed before after
-    → TakesMember k o o before after
-other_taken k other o before after passed =
-    member_taken k o o before after passed.value passed.tokens_are
+pub other_taken : (attributes : List (List ℕ)) (k : List ℕ) → IsTopMember k Other → (o : Object) (before after : List Token)
+    → IsPassed before after
+    → TakesMember attributes k o o before after
+other_taken attributes k other o before after passed =
+    member_taken attributes k o o before after passed.value passed.tokens_are
     (values_kept k (members_of o.values.items) passed.value (λ n is. not_equal k (member_name n) (other.4 n is)))
     (inl (not_equal k (member_name name.Rows) other.0, refl)) (inl (not_equal k (member_name name.Files) other.1, refl))
     (inl (not_equal k (member_name name.Left) other.2, refl)) (inl (not_equal k (member_name name.Faults) other.3, refl))
@@ -218,10 +232,10 @@ other_taken k other o before after passed =
 -- ---- all members
 
 -- some first members were read
-pub record MembersSoFar (o : Object) (start now : List Token) : Type 0 where
+pub record MembersSoFar (attributes : List (List ℕ)) (o : Object) (start now : List Token) : Type 0 where
   pub members : List Member
   pub tokens_are : start ≡ flat_map (λ (m : Member). key m.0 ∷ json_tokens m.1) members ++ now
-  pub is : IsObjectOf members o
+  pub is : IsObjectOf attributes members o
 
 abbrev member_tokens : Member → List Token
 member_tokens m = key m.0 ∷ json_tokens m.1
@@ -232,9 +246,27 @@ tokens_of_members (m ∷ ms) =
     ap (λ (ts : List Token). key m.0 ∷ (json_tokens m.1 ++ ts)) (tokens_of_members ms)
     ∙ sym (append_assoc (member_tokens m) (flat_map member_tokens ms) (end_object ∷ []))
 
-pub all_members_read : (o : Object) (start now after : List Token) → MembersSoFar o start now → now ≡ end_object ∷ after
-    → TakesObject o (begin_object ∷ start) after
-all_members_read o start now after far ended = record {
+pub members_none : (attributes : List (List ℕ)) (o : Object) (start : List Token) → IsObjectOf attributes [] o
+    → MembersSoFar attributes o start start
+members_none attributes o start none = record { members = []; tokens_are = refl; is = none }
+
+pub member_more : (attributes : List (List ℕ)) (old new : Object) (start now between after : List Token) (k : List ℕ)
+    → MembersSoFar attributes old start now → now ≡ key k ∷ between → TakesMember attributes k old new between after
+    → MembersSoFar attributes new start after
+member_more attributes old new start now between after k far next takes = record {
+  members = far.members ++ (k, takes.value) ∷ [];
+  tokens_are = far.tokens_are
+      ∙ ap (λ (ts : List Token). flat_map member_tokens far.members ++ ts) (next ∙ ap (λ (ts : List Token). key k ∷ ts) takes.tokens_are)
+      ∙ sym (append_assoc (flat_map member_tokens far.members) (member_tokens (k, takes.value)) after)
+      ∙ ap (λ (ts : List Token). (flat_map member_tokens far.members ++ ts) ++ after) (sym (append-nil (member_tokens (k, takes.value))))
+      ∙ ap (λ (ts : List Token). ts ++ after) (sym (flat_map-append member_tokens far.members ((k, takes.value) ∷ [])));
+  is = takes.adds far.members far.is;
+}
+
+pub all_members_read : (attributes : List (List ℕ)) (o : Object) (start now after : List Token) → MembersSoFar attributes o start now
+    → now ≡ end_object ∷ after
+    → TakesObject attributes o (begin_object ∷ start) after
+all_members_read attributes o start now after far ended = record {
   members = far.members;
   tokens_are = ap (λ (ts : List Token). begin_object ∷ ts) (far.tokens_are
       ∙ ap (λ (ts : List Token). flat_map member_tokens far.members ++ ts) ended

@@ -66,22 +66,25 @@ skipped_among ms (Some m) s found lines is may same order b is_b =
 -- ---- rows and files
 
 -- what a report says of its files
-abbrev FilesOf : List Member → (has_files : Bool) → List FileLineModel → ℕ → Type 0
-FilesOf ms has_files files total =
+abbrev FilesOf : List (List ℕ) → List Member → (has_files : Bool) → List FileLineModel → ℕ → Type 0
+FilesOf attributes ms has_files files total =
     MatchBool has_files
-    (HasOrdered IsFileOf (λ f. f.path) name.Files ms files ⊎ (Lacks name.Files ms × (files ≡ []) × (total ≡ 0)))
+    (HasOrdered (IsFileOf attributes) (λ f. f.path) name.Files ms files ⊎ (Lacks name.Files ms × (files ≡ []) × (total ≡ 0)))
     (Lacks name.Files ms × (files ≡ []) × (total ≢ 0))
 
-files_among : (ms : List Member) (files : Option (List FileLineModel)) (columns : Columns) (rows : List TallyRowModel) (total : Sums)
+files_among : (attributes : List (List ℕ)) (ms : List Member) (files : Option (List FileLineModel)) (columns : Columns)
+    (rows : List TallyRowModel) (total : Sums)
     (k : Kept)
-    → MayHaveLines IsFileOf name.Files ms files → IsKept files columns rows total k → FilesOf ms k.has_files k.files.items total.files
-files_among ms (Some files) columns rows total k may kept =
-    subst (λ b. FilesOf ms b k.files.items total.files) (sym kept.listed)
-    (inl (ordered_of IsFileOf (λ f. f.path) name.Files ms files k.files.items may kept.same kept.order))
-files_among ms None columns rows total k may (inl kept) =
-    subst (λ b. FilesOf ms b k.files.items total.files) (sym kept.0.listed) (inr (may, none_of k.files.items kept.0.same, kept.1))
-files_among ms None columns rows total k may (inr kept) =
-    subst (λ b. FilesOf ms b k.files.items total.files) (sym kept.0.unlisted) (may, kept.0.none, kept.1)
+    → MayHaveLines (IsFileOf attributes) name.Files ms files → IsKept files columns rows total k
+    → FilesOf attributes ms k.has_files k.files.items total.files
+files_among attributes ms (Some files) columns rows total k may kept =
+    subst (λ b. FilesOf attributes ms b k.files.items total.files) (sym kept.listed)
+    (inl (ordered_of (IsFileOf attributes) (λ f. f.path) name.Files ms files k.files.items may kept.same kept.order))
+files_among attributes ms None columns rows total k may (inl kept) =
+    subst (λ b. FilesOf attributes ms b k.files.items total.files) (sym kept.0.listed) (inr
+    (may, none_of k.files.items kept.0.same, kept.1))
+files_among attributes ms None columns rows total k may (inr kept) =
+    subst (λ b. FilesOf attributes ms b k.files.items total.files) (sym kept.0.unlisted) (may, kept.0.none, kept.1)
 
 abbrev RowsKept : Bool → Columns → Columns → List TallyRowModel → List TallyRowModel → Type 0
 RowsKept has_files kept columns rows made =
@@ -118,15 +121,18 @@ sums_kept None columns rows total k (inr kept) = record {
 
 -- ---- the whole report
 
-pub report_is : (ms : List Member) (o : Object) (n : Numbers) (rows : Vec ReadRow Global) (columns : Columns) (tally : Vec
+pub report_is : (attributes : List (List ℕ)) (ms : List Member) (o : Object) (n : Numbers) (rows : Vec ReadRow Global)
+    (columns : Columns) (tally : Vec
     TallyRowModel Global) (k : Kept)
     (skipped : Vec SkippedLineModel Global) (faults : Vec FaultLineModel Global) (r : Report)
-    → IsObjectOf ms o → IsNumbersOf (members_of o.values.items) n → n.is_cut ≡ false → o.rows ≡ Some rows → o.faults ≡ Some faults
+    → IsObjectOf attributes ms o → IsNumbersOf (members_of o.values.items) n → n.is_cut ≡ false → o.rows ≡ Some rows
+    → o.faults ≡ Some faults
     → MatchOption n.entries ((o.skipped ≡ None) × (skipped.items ≡ [])) (λ _. o.skipped ≡ Some skipped)
     → HaveColumns columns rows.items → tally.items ≡ map row_in rows.items
-    → Agrees n columns tally.items (option_map (λ v. v.items) o.files) k → IsFinished n k skipped.items faults.items r → IsReportOf ms r
-report_is ms o n rows columns tally k skipped faults r is numbers uncut rows_there faults_there skipped_are columns_are tally_is agrees
-    made =
+    → Agrees n columns tally.items (option_map (λ v. v.items) o.files) k → (k.has_files ≡ false → attributes ≡ [])
+    → IsFinished n k skipped.items faults.items r → IsReportOf attributes ms r
+report_is attributes ms o n rows columns tally k skipped faults r is numbers uncut rows_there faults_there skipped_are columns_are tally_is
+    agrees listed made =
     let among : (m : MemberName) → is_value m ≡ true → named m (members_of o.values.items) ≡ named m ms = is.values in
     let vs : List Member = members_of o.values.items in
     let rows_in : HasLines IsRowOf name.Rows ms rows.items =
@@ -160,10 +166,11 @@ report_is ms o n rows columns tally k skipped faults r is numbers uncut rows_the
             (subst (λ (v : Vec TallyRowModel Global). RowsKept k.has_files k.columns columns tally.items v.items) (sym made.rows_are)
             (rows_kept files columns tally.items n.total k agrees.kept))));
       };
-      files = subst (λ b. FilesOf ms b r.files.items r.totals.files) (sym made.has_files)
-          (subst (λ (v : Vec FileLineModel Global). FilesOf ms k.has_files v.items r.totals.files) (sym made.files_are)
-          (subst (λ (s : Sums). FilesOf ms k.has_files k.files.items s.files) (sym made.totals_are)
-          (files_among ms files columns tally.items n.total k is.files agrees.kept)));
+      files = subst (λ b. FilesOf attributes ms b r.files.items r.totals.files) (sym made.has_files)
+          (subst (λ (v : Vec FileLineModel Global). FilesOf attributes ms k.has_files v.items r.totals.files) (sym made.files_are)
+          (subst (λ (s : Sums). FilesOf attributes ms k.has_files k.files.items s.files) (sym made.totals_are)
+          (files_among attributes ms files columns tally.items n.total k is.files agrees.kept)));
+      asked = λ h. listed (sym made.has_files ∙ h);
       skipped = skipped_among ms n.entries o.skipped skipped r.skipped.items skipped_are is.skipped made.skipped_are
           made.skipped_order
           r.lists.left_out made.left_out;

@@ -28,10 +28,10 @@ same_value text j k is tokens_are =
     ap (λ (p : Json × List Token). p.0) (Some_inj (j, []) (k, []) (one_reading max_depth (depth k) (tokens text) (j, []) (k, []) read
     spelled))
 
-pub report_text : (text : List ℕ) (o : Object) (rest : List Token) (r : Report) → IsJson text → TakesObject o (tokens text) rest
-    → rest ≡ []
-    → ((ms : List Member) → IsObjectOf ms o → IsReportOf ms r) → IsReportText text r
-report_text text o rest r json takes none made = record {
+pub report_text : (attributes : List (List ℕ)) (text : List ℕ) (o : Object) (rest : List Token) (r : Report) → IsJson text
+    → TakesObject attributes o (tokens text) rest → rest ≡ []
+    → ((ms : List Member) → IsObjectOf attributes ms o → IsReportOf attributes ms r) → IsReportText attributes text r
+report_text attributes text o rest r json takes none made = record {
   members = takes.members;
   value_is = json.is ∙ ap (λ (j : Json). Some j) (same_value text json.value (object (members_with takes.members)) json.is
       (takes.tokens_are ∙ ap (λ (ts : List Token). json_tokens (object (members_with takes.members)) ++ ts) none));
@@ -39,28 +39,28 @@ report_text text o rest r json takes none made = record {
 }
 
 -- some first texts were read
-pub record TextsSoFar (text rest : List ℕ) (reports : List Report) : Type 0 where
+pub record TextsSoFar (attributes : List (List ℕ)) (text rest : List ℕ) (reports : List Report) : Type 0 where
   pub texts : List (List ℕ)
   pub front : text ≡ flat_map (λ t. t) texts ++ rest
-  pub each : AreReportTexts texts reports
+  pub each : AreReportTexts attributes texts reports
 
-texts_pushed : (ts : List (List ℕ)) (rs : List Report) (t : List ℕ) (r : Report) → AreReportTexts ts rs → IsReportText t r
-    → AreReportTexts (ts ++ t ∷ []) (rs ++ r ∷ [])
-texts_pushed [] [] t r are is = (is, tt)
-texts_pushed [] (q ∷ qs) t r are is = absurd are
-texts_pushed (u ∷ us) [] t r are is = absurd are
-texts_pushed (u ∷ us) (q ∷ qs) t r are is = (are.0, texts_pushed us qs t r are.1 is)
+texts_pushed : (attributes : List (List ℕ)) (ts : List (List ℕ)) (rs : List Report) (t : List ℕ) (r : Report)
+    → AreReportTexts attributes ts rs → IsReportText attributes t r → AreReportTexts attributes (ts ++ t ∷ []) (rs ++ r ∷ [])
+texts_pushed attributes [] [] t r are is = (is, tt)
+texts_pushed attributes [] (q ∷ qs) t r are is = absurd are
+texts_pushed attributes (u ∷ us) [] t r are is = absurd are
+texts_pushed attributes (u ∷ us) (q ∷ qs) t r are is = (are.0, texts_pushed attributes us qs t r are.1 is)
 
-pub one_text_more : (text rest piece more : List ℕ) (reports : List Report) (r : Report) → TextsSoFar text rest reports
-    → rest ≡ piece ++ more
-    → IsReportText piece r → TextsSoFar text more (reports ++ r ∷ [])
-one_text_more text rest piece more reports r far cut is = record {
+pub one_text_more : (attributes : List (List ℕ)) (text rest piece more : List ℕ) (reports : List Report) (r : Report)
+    → TextsSoFar attributes text rest reports → rest ≡ piece ++ more → IsReportText attributes piece r
+    → TextsSoFar attributes text more (reports ++ r ∷ [])
+one_text_more attributes text rest piece more reports r far cut is = record {
   texts = far.texts ++ piece ∷ [];
   front = far.front ∙ ap (λ (s : List ℕ). flat_map (λ t. t) far.texts ++ s) cut
       ∙ sym (append_assoc (flat_map (λ t. t) far.texts) piece more)
       ∙ ap (λ (s : List ℕ). (flat_map (λ t. t) far.texts ++ s) ++ more) (sym (append-nil piece))
       ∙ ap (λ (s : List ℕ). s ++ more) (sym (flat_map-append (λ t. t) far.texts (piece ∷ [])));
-  each = texts_pushed far.texts reports piece r far.each is;
+  each = texts_pushed attributes far.texts reports piece r far.each is;
 }
 
 pub if_ok : {A E : Type 0} (P Q : A → Type 0) (r : Result A E) → ((a : A) → P a → Q a) → IfOk r P → IfOk r Q

@@ -1,5 +1,6 @@
 pub mod MemberNames
 pub mod Members
+pub mod States
 pub mod Lines
 pub mod Lists
 pub mod Rows

@@ -1,5 +1,5 @@
 -- The lines of a report, as the members of JSON objects.
-use Rattle.std.specs.Prelude.{◌≡◌, ◌==◌, ◌&&◌, ◌-◌, ℕ, length, slice_get, Bool, true, false, not, List, [], ◌++◌, Option, Some, None, ⊤}
+use Rattle.std.specs.Prelude.{◌≡◌, ◌==◌, ◌&&◌, ◌-◌, ℕ, length, slice_get, Bool, true, false, not, List, ◌++◌, Option, Some, None, ⊤}
 use Rattle.std.specs.List.{list_any}
 use Rattle.json.specs.Json.{Json, null, string}
 use Rattle.lc_census.specs.{EolWords.eol_word, declared.line_count.Count.Count}
@@ -9,7 +9,7 @@ use Rattle.lc_rules.specs.{TextWords.text_word, declared.{rule_source.RuleSource
 use Rattle.lc_text.specs.RulePlaces.{source_directory, source_name}
 use Rattle.lc_tree.specs.declared.entry.{Kind.{Kind, TheVariants.{File, Other}}, OtherKind.TheVariants.Mounted}
 use Rattle.lc_rows.specs.Words.{kind_word}
-use Rattle.lc_reading.specs.Members.{Member, Has, HasBytes, HasNumber, HasText}
+use Rattle.lc_reading.specs.{Members.{Member, Has, HasBytes, HasNumber, HasText}, States.HasStates}
 use Rattle.lc_reading.specs.declared.member_name.MemberName.TheVariants as member
 
 -- ---- values
@@ -37,12 +37,12 @@ pub record IsCountOf (ms : List Member) (c : Count) : Type 0 where
   pub blank : HasNumber member.Blank ms c.blank
   pub bytes : HasNumber member.Bytes ms c.bytes
 
--- a file has no states of attributes that were asked for
-pub record IsFileOf (ms : List Member) (f : FileLineModel) : Type 0 where
+-- a file with the states of these attributes
+pub record IsFileOf (attributes : List (List ℕ)) (ms : List Member) (f : FileLineModel) : Type 0 where
   pub path : HasBytes member.Path member.PathBytes ms f.path
   pub entry : is_entry_path f.path ≡ true
   pub text : HasTextState ms f.text
-  pub asked : f.asked ≡ []
+  pub asked : HasStates ms attributes f.asked
   pub count : IsCountOf ms f.count
 
 -- ---- faults

@@ -45,9 +45,13 @@ HasNumber name ms n = Has name ms (number (decimal n))
 abbrev pub HasText : MemberName → List Member → List ℕ → Type 0
 HasText name ms s = Has name ms (string s)
 
+-- bytes as a list of numbers
+abbrev pub bytes_json : List ℕ → Json
+bytes_json bytes = array (items_of (map (λ b. number (decimal b)) bytes))
+
 -- the value of the one member of this name is these bytes, as a list of numbers
 abbrev pub HasList : MemberName → List Member → List ℕ → Type 0
-HasList name ms bytes = Has name ms (array (items_of (map (λ b. number (decimal b)) bytes)))
+HasList name ms bytes = Has name ms (bytes_json bytes)
 
 -- these bytes are a text in the member of the one name, or a list of numbers in the member of the other name
 abbrev pub HasBytes : MemberName → MemberName → List Member → List ℕ → Type 0

@@ -39,11 +39,11 @@ pub record HasLines {L : Type 0} (Says : List Member → L → Type 0) (name : M
 abbrev pub MayHaveLines : {L : Type 0} → (List Member → L → Type 0) → MemberName → List Member → Option (List L) → Type 0
 MayHaveLines Says name ms lines = MatchOption lines (Lacks name ms) (HasLines Says name ms)
 
--- these members of a report were read as this object, its lists line by line
-pub record IsObjectOf (ms : List Member) (o : Object) : Type 0 where
+-- these members of a report were read as this object, its lists line by line; its files have the states of these attributes
+pub record IsObjectOf (attributes : List (List ℕ)) (ms : List Member) (o : Object) : Type 0 where
   pub values : (n : MemberName) → is_value n ≡ true → named n (members_of o.values.items) ≡ named n ms
   pub rows : MayHaveLines IsRowOf member.Rows ms (option_map (λ v. v.items) o.rows)
-  pub files : MayHaveLines IsFileOf member.Files ms (option_map (λ v. v.items) o.files)
+  pub files : MayHaveLines (IsFileOf attributes) member.Files ms (option_map (λ v. v.items) o.files)
   pub skipped : MayHaveLines IsSkippedOf member.Left ms (option_map (λ v. v.items) o.skipped)
   pub faults : MayHaveLines IsFaultOf member.Faults ms (option_map (λ v. v.items) o.faults)
 
@@ -56,10 +56,10 @@ pub record Fills {L : Type 0} (Says : List Member → L → Type 0) (old new : O
     pub begins : BeginsWith (IsListOf Says) before after lines
 
 -- a member of this name was read from the tokens, and added to the object
-pub record TakesMember (k : List ℕ) (old new : Object) (before after : List Token) : Type 0 where
+pub record TakesMember (attributes : List (List ℕ)) (k : List ℕ) (old new : Object) (before after : List Token) : Type 0 where
   pub value : Json
   pub tokens_are : before ≡ json_tokens value ++ after
-  pub adds : (ms : List Member) → IsObjectOf ms old → IsObjectOf (ms ++ (k, value) ∷ []) new
+  pub adds : (ms : List Member) → IsObjectOf attributes ms old → IsObjectOf attributes (ms ++ (k, value) ∷ []) new
 
 -- a value was skipped: the tokens begin with it
 pub record IsPassed (before after : List Token) : Type 0 where
@@ -67,7 +67,7 @@ pub record IsPassed (before after : List Token) : Type 0 where
   pub tokens_are : before ≡ json_tokens value ++ after
 
 -- an object was read from the tokens
-pub record TakesObject (o : Object) (before after : List Token) : Type 0 where
+pub record TakesObject (attributes : List (List ℕ)) (o : Object) (before after : List Token) : Type 0 where
   pub members : List Member
   pub tokens_are : before ≡ json_tokens (object (members_with members)) ++ after
-  pub is : IsObjectOf members o
+  pub is : IsObjectOf attributes members o

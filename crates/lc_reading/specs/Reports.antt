@@ -1,5 +1,5 @@
 -- The members of a JSON object that is a report, and the report that it is.
-use Rattle.std.specs.{Prelude.{◌≡◌, ◌≢◌, ◌⊎◌, ℕ, true, List, [], ◌∷◌, map, ⊤, MatchOption}, Bool.MatchBool}
+use Rattle.std.specs.{Prelude.{◌≡◌, ◌≢◌, ◌⊎◌, ℕ, true, false, List, [], ◌∷◌, map, ⊤, MatchOption}, Bool.MatchBool}
 use Rattle.std.specs.List.Sorted.{IsPermutation, IsSortedByKey}
 use Rattle.lc_tree.specs.ByteOrder.{bytes_cmp}
 use Rattle.lc_walk.specs.{ReportTotals.TotalsAddUp, TallyRows.{AddsUp, TallyRowModel, sums_of_rows}}
@@ -52,8 +52,8 @@ pub record HasRows (ms : List Member) (r : Report) : Type 0 where
   pub nul : columns.eol ≡ true → r.classes.binary ≡ binary_sums (map row_in rows)
   pub kept : MatchBool r.lists.files (r.columns ≡ all_columns) ((r.columns ≡ columns) × AddsUp (map row_in rows) r.rows.items)
 
--- an object with these members is this report
-pub record IsReportOf (ms : List Member) (r : Report) : Type 0 where
+-- an object with these members is this report, whose files have the states of these attributes
+pub record IsReportOf (attributes : List (List ℕ)) (ms : List Member) (r : Report) : Type 0 where
   pub uncut : Lacks member.Others ms
   pub total : HasSums member.Total ms r.totals
   pub text : HasSums member.Text ms r.classes.text
@@ -64,9 +64,11 @@ pub record IsReportOf (ms : List Member) (r : Report) : Type 0 where
   pub rows : HasRows ms r
   -- a report has a list of files if it lists them, or counts none
   pub files : MatchBool r.lists.files
-      (HasOrdered IsFileOf (λ f. f.path) member.Files ms r.files.items
+      (HasOrdered (IsFileOf attributes) (λ f. f.path) member.Files ms r.files.items
       ⊎ (Lacks member.Files ms × (r.files.items ≡ []) × (r.totals.files ≡ 0)))
       (Lacks member.Files ms × (r.files.items ≡ []) × (r.totals.files ≢ 0))
+  -- only the files of a list have states
+  pub asked : r.lists.files ≡ false → attributes ≡ []
   pub skipped : MatchBool r.lists.left_out (HasOrdered IsSkippedOf (λ l. l.path) member.Left ms r.skipped.items)
       (Lacks member.Left ms × (r.skipped.items ≡ []))
   pub faults : HasOrdered IsFaultOf (λ f. f.path) member.Faults ms r.faults.items

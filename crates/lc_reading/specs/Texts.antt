@@ -9,24 +9,25 @@ pub record IsJson (text : List ℕ) : Type 0 where
   pub value : Json
   pub is : document text ≡ Some value
 
--- a text is one JSON object, which is this report
-pub record IsReportText (text : List ℕ) (r : Report) : Type 0 where
+-- a text is one JSON object, which is this report, whose files have the states of these attributes
+pub record IsReportText (attributes : List (List ℕ)) (text : List ℕ) (r : Report) : Type 0 where
   pub members : List Member
   pub value_is : document text ≡ Some (object (members_with members))
-  pub is : IsReportOf members r
+  pub is : IsReportOf attributes members r
 
 -- each of these texts is that of a report, in the same order
-abbrev pub AreReportTexts : List (List ℕ) → List Report → Type 0
-AreReportTexts [] [] = ⊤
-AreReportTexts [] (r ∷ rs) = ⊥
-AreReportTexts (t ∷ ts) [] = ⊥
-AreReportTexts (t ∷ ts) (r ∷ rs) = IsReportText t r × AreReportTexts ts rs
+abbrev pub AreReportTexts : List (List ℕ) → List (List ℕ) → List Report → Type 0
+AreReportTexts attributes [] [] = ⊤
+AreReportTexts attributes [] (r ∷ rs) = ⊥
+AreReportTexts attributes (t ∷ ts) [] = ⊥
+AreReportTexts attributes (t ∷ ts) (r ∷ rs) = IsReportText attributes t r × AreReportTexts attributes ts rs
 
--- a text is made of the texts of these reports, at least one, one after another, and white space
-pub record AreReportsOf (text : List ℕ) (reports : List Report) : Type 0 where
+-- a text is made of the texts of these reports, at least one, one after another, and white space; their files have the states of these
+-- attributes
+pub record AreReportsOf (attributes : List (List ℕ)) (text : List ℕ) (reports : List Report) : Type 0 where
   pub texts : List (List ℕ)
   pub blank : List ℕ
   pub whole : text ≡ flat_map (λ t. t) texts ++ blank
   pub is_blank : list_all is_space blank ≡ true
-  pub each : AreReportTexts texts reports
+  pub each : AreReportTexts attributes texts reports
   pub some : 0 < length reports

@@ -1,6 +1,6 @@
 //! Making a report from the members that were read from its JSON object.
 
-ghost use Rattle.std.specs.Prelude.{◌≡◌, [], false, IfOk, List, MatchOption, None, Some, option_map};
+ghost use Rattle.std.specs.Prelude.{◌≡◌, [], false, IfOk, List, MatchOption, None, OnOk, Some, option_map};
 ghost use Rattle.lc_reading.specs.Members.{Member};
 ghost use Rattle.lc_reading.specs.Objects.{IsObjectOf};
 ghost use Rattle.lc_reading.specs.Reports.{IsReportOf};
@@ -12,7 +12,7 @@ use crate::member_name::MemberName;
 use crate::numbers_of::{Numbers, numbers_of};
 use crate::object::Object;
 use crate::read_fault::{NoReport, Part, ReadFault};
-use lc_sheet::Columns;
+use lc_sheet::{AttributeColumn, Columns};
 use lc_walk::{ClassSums, FaultLine, FileLine, Report, ReportLists, SkippedLine, TallyRow};
 use std::alloc::{AllocError, Global};
 
@@ -104,9 +104,24 @@ fn finished(
     })
 }
 
-/// Makes a report from its JSON object, or returns why the object is no report.
-pub(crate) fn report_of(alloc: Global, object: Object<'_>) -> Result<Report, ReadFault>
-    ensures { IfOk result (λ report. (ms : List Member) → IsObjectOf ms object.entry → IsReportOf ms report) }
+/// Refuses a report that lists no files if attributes were asked for.
+fn check_listed(attributes: &[AttributeColumn], has_files: bool) -> Result<(), ReadFault>
+    ensures { OnOk result (has_files ≡ false → attributes.now ≡ []) }
+{
+    if has_files || attributes.is_empty() {
+        Ok(())
+    } else {
+        Err(ReadFault::NoAttribute(0))
+    }
+}
+
+/// Makes a report from its JSON object, whose files have the states of `attributes`, or returns why the object is no such report.
+pub(crate) fn report_of(
+    alloc: Global,
+    object: Object<'_>,
+    attributes: &[AttributeColumn],
+) -> Result<Report, ReadFault>
+    ensures { IfOk result (λ report. (ms : List Member) → IsObjectOf attributes.now ms object.entry → IsReportOf attributes.now ms report) }
 {
     let Object {
         values,
@@ -125,6 +140,7 @@ pub(crate) fn report_of(alloc: Global, object: Object<'_>) -> Result<Report, Rea
         return Err(ReadFault::CutByTop);
     }
     let kept = agreeing(alloc, &numbers, columns, rows, files)?;
+    check_listed(attributes, kept.has_files)?;
     let report = finished(&numbers, kept, skipped, faults)?;
     Ok(report)
 }

@@ -6,6 +6,7 @@
 //! - `top_member`: finding a member of a report by its name
 //! - `lists`: the lists of a report, which are read line by line
 //! - `rows`, `file_lines`: reading the rows and the listed files of a report
+//! - `states`: reading the states of attributes that a file has
 //! - `skipped_lines`, `fault_lines`: reading the skipped entries and the errors of a report
 //! - `lines`: reading values, such as paths, that occur in the lines of several lists
 //! - `rule_places`: finding the file that a rule was read from, by its path
@@ -37,6 +38,7 @@ mod reading;
 mod rows;
 mod rule_places;
 mod skipped_lines;
+mod states;
 mod sums;
 mod top_member;
 mod values;

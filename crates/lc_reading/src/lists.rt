@@ -16,18 +16,23 @@ use crate::rows::{ReadRow, row_of};
 use crate::skipped_lines::skipped_of;
 use json::{Error, Reader, Token, Value};
 use lc_level::{FaultLine, FileLine, SkippedLine};
+use lc_sheet::AttributeColumn;
 use std::alloc::Global;
 
 /// A line of a list in a report: a file, an error, a skipped entry or a row.
 pub(crate) trait ListLine: Sized + Drop {
-    ghost use Rattle.std.specs.Prelude.{List};
+    ghost use Rattle.std.specs.Prelude.{ℕ, List};
     ghost use Rattle.lc_reading.specs.Members.{Member};
 
-    ghost is_of: { List Member → Self → Type 0 };
+    ghost is_of: { List (List ℕ) → List Member → Self → Type 0 };
 
-    /// Reads a line from the members of its JSON object.
-    fn of<'a>(alloc: Global, members: &[(&'a str, Value<'a>)]) -> Result<Self, ReadFault>
-        ensures { IfOk result (λ line. is_of (members_of members.now) line) };
+    /// Reads a line from the members of its JSON object. Only a file has the states of attributes.
+    fn of<'a>(
+        alloc: Global,
+        members: &[(&'a str, Value<'a>)],
+        attributes: &[AttributeColumn],
+    ) -> Result<Self, ReadFault>
+        ensures { IfOk result (λ line. is_of attributes.now (members_of members.now) line) };
 }
 
 impl ListLine for FileLine {
@@ -35,17 +40,25 @@ impl ListLine for FileLine {
 
     ghost is_of = { IsFileOf };
 
-    fn of<'a>(alloc: Global, members: &[(&'a str, Value<'a>)]) -> Result<FileLine, ReadFault> {
-        file_of(alloc, members)
+    fn of<'a>(
+        alloc: Global,
+        members: &[(&'a str, Value<'a>)],
+        attributes: &[AttributeColumn],
+    ) -> Result<FileLine, ReadFault> {
+        file_of(alloc, members, attributes)
     }
 }
 
 impl ListLine for FaultLine {
     ghost use Rattle.lc_reading.specs.Lines.{IsFaultOf};
 
-    ghost is_of = { IsFaultOf };
+    ghost is_of = { λ _. IsFaultOf };
 
-    fn of<'a>(alloc: Global, members: &[(&'a str, Value<'a>)]) -> Result<FaultLine, ReadFault> {
+    fn of<'a>(
+        alloc: Global,
+        members: &[(&'a str, Value<'a>)],
+        _attributes: &[AttributeColumn],
+    ) -> Result<FaultLine, ReadFault> {
         fault_line_of(alloc, members)
     }
 }
@@ -53,9 +66,13 @@ impl ListLine for FaultLine {
 impl ListLine for SkippedLine {
     ghost use Rattle.lc_reading.specs.Lines.{IsSkippedOf};
 
-    ghost is_of = { IsSkippedOf };
+    ghost is_of = { λ _. IsSkippedOf };
 
-    fn of<'a>(alloc: Global, members: &[(&'a str, Value<'a>)]) -> Result<SkippedLine, ReadFault> {
+    fn of<'a>(
+        alloc: Global,
+        members: &[(&'a str, Value<'a>)],
+        _attributes: &[AttributeColumn],
+    ) -> Result<SkippedLine, ReadFault> {
         skipped_of(alloc, members)
     }
 }
@@ -63,9 +80,13 @@ impl ListLine for SkippedLine {
 impl ListLine for ReadRow {
     ghost use Rattle.lc_reading.specs.Rows.{IsRowOf};
 
-    ghost is_of = { IsRowOf };
+    ghost is_of = { λ _. IsRowOf };
 
-    fn of<'a>(alloc: Global, members: &[(&'a str, Value<'a>)]) -> Result<ReadRow, ReadFault> {
+    fn of<'a>(
+        alloc: Global,
+        members: &[(&'a str, Value<'a>)],
+        _attributes: &[AttributeColumn],
+    ) -> Result<ReadRow, ReadFault> {
         row_of(alloc, members)
     }
 }
@@ -100,23 +121,25 @@ fn line_of<'a, L: ListLine>(
     alloc: Global,
     value: &Value<'a>,
     name: MemberName,
+    attributes: &[AttributeColumn],
 ) -> Result<L, ReadFault>
-    ensures { IfOk result (λ line. IsLineOf L.is_of (value_view value.now) line) }
+    ensures { IfOk result (λ line. IsLineOf (L.is_of attributes.now) (value_view value.now) line) }
 {
     let members = members_in(value, name)?;
-    L::of(alloc, members)
+    L::of(alloc, members, attributes)
 }
 
 fn read_line<'a, L: ListLine>(
     alloc: Global,
     reader: &mut Reader<'a>,
     name: MemberName,
+    attributes: &[AttributeColumn],
 ) -> Result<L, ReadFault>
-    ensures line { IfOk result (λ line. BeginsWith (IsLineOf L.is_of) reader.old reader.new line) }
+    ensures line { IfOk result (λ line. BeginsWith (IsLineOf (L.is_of attributes.now)) reader.old reader.new line) }
     ensures shorter { OnOk result (length reader.new < length reader.old) }
 {
     let value = read_value(alloc, reader, name)?;
-    line_of(alloc, &value, name)
+    line_of(alloc, &value, name, attributes)
 }
 
 /// Reads the lines of a list after its opening bracket.
@@ -124,27 +147,29 @@ fn read_lines<'a, L: ListLine>(
     alloc: Global,
     reader: &mut Reader<'a>,
     name: MemberName,
+    attributes: &[AttributeColumn],
 ) -> Result<Vec<L>, ReadFault>
-    ensures { IfOk result (λ lines. BeginsWith (IsListOf L.is_of) (begin_array ∷ reader.old) reader.new lines.items) }
+    ensures { IfOk result (λ lines. BeginsWith (IsListOf (L.is_of attributes.now)) (begin_array ∷ reader.old) reader.new lines.items) }
 {
     let mut lines = Vec::new(alloc);
     'lines: while !reader.take_end_array() {
-        let line = read_line(alloc, reader, name)?;
+        let line = read_line(alloc, reader, name, attributes)?;
         lines.push(line)?;
     }
     Ok(lines)
 }
 
-/// Reads the list that is the value of the member `name`.
+/// Reads the list that is the value of the member `name`. Files have the states of `attributes`.
 pub(crate) fn read_list<'a, L: ListLine>(
     alloc: Global,
     reader: &mut Reader<'a>,
     name: MemberName,
+    attributes: &[AttributeColumn],
 ) -> Result<Vec<L>, ReadFault>
-    ensures { IfOk result (λ lines. BeginsWith (IsListOf L.is_of) reader.old reader.new lines.items) }
+    ensures { IfOk result (λ lines. BeginsWith (IsListOf (L.is_of attributes.now)) reader.old reader.new lines.items) }
 {
     match reader.next() {
-        Some(Token::BeginArray) => read_lines(alloc, reader, name),
+        Some(Token::BeginArray) => read_lines(alloc, reader, name, attributes),
         _ => Err(ReadFault::NoReport(NoReport::Bad(name))),
     }
 }

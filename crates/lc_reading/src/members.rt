@@ -30,7 +30,26 @@ fn first_member<'v, 'a>(
     None
 }
 
-/// Finds the value of the only member with a name, if there is one.
+/// Finds the value of the only member with a name, if there is one. If there are several, returns the error `twice`.
+pub(crate) fn only<'v, 'a>(
+    members: &'v [(&'a str, Value<'a>)],
+    name: &str,
+    twice: NoReport,
+) -> Result<Option<&'v Value<'a>>, NoReport>
+    ensures found { IfOk result (λ found. MatchOption found (values_at name.now (members_of members.now) ≡ [])
+        (λ value. values_at name.now (members_of members.now) ≡ value_view value.now ∷ [])) }
+    ensures twice { OnErr result (1 < length (values_at name.now (members_of members.now))) }
+{
+    let Some((value, others)) = first_member(members, name) else {
+        return Ok(None);
+    };
+    match first_member(others, name) {
+        None => Ok(Some(value)),
+        Some(_) => Err(twice),
+    }
+}
+
+/// Finds the value of the only member with the name of a member of reports, if there is one.
 pub(crate) fn optional<'v, 'a>(
     members: &'v [(&'a str, Value<'a>)],
     name: MemberName,
@@ -39,13 +58,7 @@ pub(crate) fn optional<'v, 'a>(
         (λ value. Has name (members_of members.now) (value_view value.now))) }
     ensures twice { OnErr result (1 < length (named name (members_of members.now))) }
 {
-    let Some((value, others)) = first_member(members, name.as_str()) else {
-        return Ok(None);
-    };
-    match first_member(others, name.as_str()) {
-        None => Ok(Some(value)),
-        Some(_) => Err(NoReport::Twice(name)),
-    }
+    only(members, name.as_str(), NoReport::Twice(name))
 }
 
 /// Finds the value of the only member with a name.

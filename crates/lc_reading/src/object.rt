@@ -1,6 +1,6 @@
 //! Reading the JSON object of a report, member by member.
 
-ghost use Rattle.std.specs.Prelude.{◌≡◌, ◌∷◌, true, option_map, IfOk, OnOk, []};
+ghost use Rattle.std.specs.Prelude.{◌≡◌, ◌∷◌, ℕ, true, List, option_map, IfOk, OnOk, []};
 ghost use Rattle.json.specs.Token.{begin_object};
 ghost use Rattle.json.proofs.Grammar.{key_token};
 ghost use Rattle.lc_reading.specs.MemberNames.{member_name};
@@ -13,6 +13,7 @@ use crate::rows::ReadRow;
 use crate::top_member::{TopMember, top_member};
 use json::{Reader, Token, Value};
 use lc_level::{FaultLine, FileLine, SkippedLine};
+use lc_sheet::AttributeColumn;
 use std::alloc::Global;
 
 /// The members of a report, with its lists already read.
@@ -27,7 +28,7 @@ pub(crate) struct Object<'a> {
 }
 
 fn no_members<'a>(alloc: Global) -> Object<'a>
-    ensures { IsObjectOf [] result }
+    ensures { (attributes : List (List ℕ)) → IsObjectOf attributes [] result }
 {
     Object {
         values: Vec::new(alloc),
@@ -44,13 +45,14 @@ fn fill<'a, L: ListLine>(
     alloc: Global,
     reader: &mut Reader<'a>,
     name: MemberName,
+    attributes: &[AttributeColumn],
 ) -> Result<(), ReadFault>
-    ensures { OnOk result (Fills L.is_of list.old list.new reader.old reader.new) }
+    ensures { OnOk result (Fills (L.is_of attributes.now) list.old list.new reader.old reader.new) }
 {
     if list.is_some() {
         return Err(ReadFault::NoReport(NoReport::Twice(name)));
     }
-    let lines = read_list(alloc, reader, name)?;
+    let lines = read_list(alloc, reader, name, attributes)?;
     *list = Some(lines);
     Ok(())
 }
@@ -63,8 +65,8 @@ fn read_small<'a>(
     key: &'a str,
     name: MemberName,
 ) -> Result<(), ReadFault>
-    ensures { OnOk result (is_value name ≡ true → key.entry.now ≡ member_name name
-        → TakesMember key.entry.now object.old object.new reader.old reader.new) }
+    ensures { OnOk result (is_value name ≡ true → key.entry.now ≡ member_name name → (attributes : List (List ℕ))
+        → TakesMember attributes key.entry.now object.old object.new reader.old reader.new) }
 {
     let value = read_value(alloc, reader, name)?;
     object.values.push((key, value))?;
@@ -87,14 +89,39 @@ fn read_member<'a>(
     alloc: Global,
     reader: &mut Reader<'a>,
     key: &'a str,
+    attributes: &[AttributeColumn],
 ) -> Result<(), ReadFault>
-    ensures { OnOk result (TakesMember key.entry.now object.old object.new reader.old reader.new) }
+    ensures { OnOk result (TakesMember attributes.now key.entry.now object.old object.new reader.old reader.new) }
 {
     match top_member(key) {
-        TopMember::Rows => fill(&mut object.rows, alloc, reader, MemberName::Rows),
-        TopMember::Files => fill(&mut object.files, alloc, reader, MemberName::Files),
-        TopMember::Left => fill(&mut object.skipped, alloc, reader, MemberName::Left),
-        TopMember::Faults => fill(&mut object.faults, alloc, reader, MemberName::Faults),
+        TopMember::Rows => fill(
+            &mut object.rows,
+            alloc,
+            reader,
+            MemberName::Rows,
+            attributes,
+        ),
+        TopMember::Files => fill(
+            &mut object.files,
+            alloc,
+            reader,
+            MemberName::Files,
+            attributes,
+        ),
+        TopMember::Left => fill(
+            &mut object.skipped,
+            alloc,
+            reader,
+            MemberName::Left,
+            attributes,
+        ),
+        TopMember::Faults => fill(
+            &mut object.faults,
+            alloc,
+            reader,
+            MemberName::Faults,
+            attributes,
+        ),
         TopMember::Value(name) => read_small(object, alloc, reader, key, name),
         TopMember::Other => skip(reader),
     }
@@ -112,25 +139,30 @@ fn next_key<'a>(reader: &mut Reader<'a>) -> Result<Option<&'a str>, ReadFault>
 }
 
 /// Reads the members of an object after its opening brace.
-fn read_members<'a>(alloc: Global, reader: &mut Reader<'a>) -> Result<Object<'a>, ReadFault>
-    ensures { IfOk result (λ o. TakesObject o (begin_object ∷ reader.old) reader.new) }
+fn read_members<'a>(
+    alloc: Global,
+    reader: &mut Reader<'a>,
+    attributes: &[AttributeColumn],
+) -> Result<Object<'a>, ReadFault>
+    ensures { IfOk result (λ o. TakesObject attributes.now o (begin_object ∷ reader.old) reader.new) }
 {
     let mut object = no_members(alloc);
     'members: while let Some(key) = next_key(reader)? {
-        read_member(&mut object, alloc, reader, key)?;
+        read_member(&mut object, alloc, reader, key, attributes)?;
     }
     Ok(object)
 }
 
-/// Reads the JSON object of a report.
+/// Reads the JSON object of a report, whose files have the states of `attributes`.
 pub(crate) fn read_object<'a>(
     alloc: Global,
     reader: &mut Reader<'a>,
+    attributes: &[AttributeColumn],
 ) -> Result<Object<'a>, ReadFault>
-    ensures { IfOk result (λ o. TakesObject o reader.old reader.new) }
+    ensures { IfOk result (λ o. TakesObject attributes.now o reader.old reader.new) }
 {
     match reader.next() {
-        Some(Token::BeginObject) => read_members(alloc, reader),
+        Some(Token::BeginObject) => read_members(alloc, reader, attributes),
         _ => Err(ReadFault::NoReport(NoReport::NoObject(reader.offset()))),
     }
 }

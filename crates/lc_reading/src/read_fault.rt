@@ -23,6 +23,10 @@ pub enum ReadFault {
     /// The sums of this part of the report differ from the report's total, or the rows of binary files differ from `binary`.
     #[error("is no report: its {0} do not add up to its total")]
     DoNotAddUp(Part),
+    /// The report does not list its files, or a file lacks the state of an attribute that was asked for. The number is the place of the
+    /// first such attribute among those that were asked for.
+    #[error("has no column of the attribute at {0}")]
+    NoAttribute(u8),
 }
 
 /// Why a text is not a report.
@@ -43,6 +47,12 @@ pub enum NoReport {
     /// No report can have the value of this member.
     #[error("bad {0}")]
     Bad(MemberName),
+    /// A file has two members with the state of the attribute at this place among those that were asked for.
+    #[error("attribute at {0} twice")]
+    AttributeTwice(u8),
+    /// A member of a file is no state of the attribute at this place among those that were asked for.
+    #[error("bad attribute at {0}")]
+    BadAttribute(u8),
 }
 
 /// A part of a report whose sums must add up to the report's total.

@@ -12,6 +12,7 @@ use crate::cutter::object_length;
 use crate::object::read_object;
 use crate::read_fault::{NoReport, ReadFault};
 use json::{MAX_DEPTH, Reader, Scratch};
+use lc_sheet::AttributeColumn;
 use lc_walk::Report;
 use std::alloc::Global;
 use std::str::from_utf8;
@@ -48,22 +49,23 @@ fn check_json(text: &str, start: usize, scratch: &mut Scratch<Global>) -> Result
     }
 }
 
-/// Reads the report in a JSON text.
+/// Reads the report in a JSON text, whose files have the states of `attributes`.
 fn report_in(
     alloc: Global,
     text: &str,
     start: usize,
     scratch: &mut Scratch<Global>,
+    attributes: &[AttributeColumn],
 ) -> Result<Report, ReadFault>
-    ensures { IfOk result (IsReportText text.now) }
+    ensures { IfOk result (IsReportText attributes.now text.now) }
 {
     check_json(text, start, scratch)?;
     let mut reader = Reader::new(text, scratch)?;
-    let object = read_object(alloc, &mut reader)?;
+    let object = read_object(alloc, &mut reader, attributes)?;
     if reader.next().is_some() {
         return Err(no_object(start));
     }
-    report_of(alloc, object)
+    report_of(alloc, object, attributes)
 }
 
 /// Splits a text after the JSON object at its beginning. `start` is the index of the text's first byte in the input.
@@ -90,14 +92,21 @@ fn cut(text: &[u8], start: usize) -> Result<(&str, &[u8]), ReadFault>
 /// The objects are read one after another, and the error is about the first object that is refused. For each object, the function first
 /// looks for the error [`ReadFault::NoReport`], then for [`ReadFault::CutByTop`], and last for [`ReadFault::DoNotAddUp`].
 ///
+/// Each file of a report has the states of `attributes`, in their order. The error [`ReadFault::NoAttribute`] is found where a file is read
+/// that lacks one of these members, or last for a report that lists no files.
+///
 /// Besides the reports, the function allocates memory for as many bytes as the longest object has, and for one line of a list, such as a
 /// row or a file.
 ///
 /// ```
-/// let reports = read_reports(alloc, &text)?;
+/// let reports = read_reports(alloc, &text, &[])?;
 /// ```
-pub fn read_reports(alloc: Global, text: &[u8]) -> Result<Vec<Report>, ReadFault>
-    ensures reports { IfOk result (λ reports. AreReportsOf text.now reports.items) }
+pub fn read_reports(
+    alloc: Global,
+    text: &[u8],
+    attributes: &[AttributeColumn],
+) -> Result<Vec<Report>, ReadFault>
+    ensures reports { IfOk result (λ reports. AreReportsOf attributes.now text.now reports.items) }
     ensures empty { list_all is_space text.now ≡ true → result ≡ Err (fault.NoReport why.Empty) }
 {
     if is_blank(text) {
@@ -109,7 +118,8 @@ pub fn read_reports(alloc: Global, text: &[u8]) -> Result<Vec<Report>, ReadFault
     'texts: while !is_blank(rest) {
         let start = text.len().saturating_sub(rest.len());
         let (object, more) = cut(rest, start)?;
-        reports.push(report_in(alloc, object, start, &mut scratch)?)?;
+        let report = report_in(alloc, object, start, &mut scratch, attributes)?;
+        reports.push(report)?;
         rest = more;
     }
     Ok(reports)

@@ -137,6 +137,7 @@ fn columns_of<'a>(members: &[(&'a str, Value<'a>)]) -> Result<Columns, NoReport>
     let eol = has(members, MemberName::Eol)?;
     Ok(Columns {
         dir: None,
+        attributes: 0,
         ext: ext || listed,
         text,
         eol,

@@ -3,7 +3,7 @@
 ghost use Rattle.std.specs.Prelude.{ℕ, List, OnErr, ◌≡◌, ◌<◌, ◌^◌, map, decimal, IfOk, IfSome, MatchOption};
 ghost use Rattle.json.specs.Json.{number as json_number};
 ghost use Rattle.json.specs.Value.{value_view};
-ghost use Rattle.lc_reading.specs.Members.{HasBytes, HasList, HasNumber, HasText, Lacks, members_of, values_of};
+ghost use Rattle.lc_reading.specs.Members.{HasBytes, HasList, HasNumber, HasText, Lacks, bytes_json, members_of, values_of};
 
 use crate::member_name::MemberName;
 use crate::members::{needed, optional};
@@ -88,6 +88,23 @@ fn listed_bytes(alloc: Global, values: &[Value<'_>]) -> Result<Option<Vec<u8>>, 
     Ok(Some(bytes))
 }
 
+/// Reads bytes from a list of numbers. For any other value, returns the error `bad`.
+pub(crate) fn bytes_of_array(
+    alloc: Global,
+    value: &Value<'_>,
+    bad: NoReport,
+) -> Result<Vec<u8>, ReadFault>
+    ensures { IfOk result (λ bytes. value_view value.now ≡ bytes_json bytes.items) }
+{
+    let Value::Array(values) = value else {
+        return Err(ReadFault::NoReport(bad));
+    };
+    match listed_bytes(alloc, values)? {
+        Some(bytes) => Ok(bytes),
+        None => Err(ReadFault::NoReport(bad)),
+    }
+}
+
 /// Reads the bytes that the member `list` has as a list of numbers, if there is such a member.
 fn bytes_of_list<'a>(
     alloc: Global,
@@ -97,15 +114,9 @@ fn bytes_of_list<'a>(
     ensures { IfOk result (λ found. MatchOption found (Lacks list (members_of members.now))
         (λ bytes. HasList list (members_of members.now) bytes.items)) }
 {
-    let Some(value) = optional(members, list)? else {
-        return Ok(None);
-    };
-    let Value::Array(values) = value else {
-        return Err(ReadFault::NoReport(NoReport::Bad(list)));
-    };
-    match listed_bytes(alloc, values)? {
-        Some(bytes) => Ok(Some(bytes)),
-        None => Err(ReadFault::NoReport(NoReport::Bad(list))),
+    match optional(members, list)? {
+        Some(value) => Ok(Some(bytes_of_array(alloc, value, NoReport::Bad(list))?)),
+        None => Ok(None),
     }
 }
 

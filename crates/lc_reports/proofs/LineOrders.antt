@@ -1,7 +1,8 @@
 -- Lines are in a total order, in which only a line itself ties with it.
 use Rattle.std.proofs.{Common.{◌≡◌, ℕ, ◌==◌, cond, List, [], ◌∷◌, refl, sym, ◌∙◌, ap, nat_cmp}, lemmas.Cmp.nat_cmp_total}
 use Rattle.std.proofs.lemmas.Cmp.{nat_list_cmp_total, on_total, then_total}
-use Rattle.std.specs.{Cmp.IsTotalOrder, FinMap.{nat_cmp-IsAntisymmetric, slice_cmp-IsAntisymmetric}, declared.cmp.Ordering.TheVariants.Equal}
+use Rattle.std.specs.{Cmp.IsTotalOrder, FinMap.{nat_cmp-IsAntisymmetric, slice_cmp-IsAntisymmetric}}
+use Rattle.std.specs.declared.cmp.Ordering.TheVariants.{Equal}
 use Rattle.lc_level.specs.{FaultLines.FaultLineModel, FaultWords.fault_word, Level.{Reason, SkippedLineModel, named_git, by_rule}}
 use Rattle.lc_level.specs.{Level.{by_attribute, not_included, other_kind}, ReasonWords.reason_word, declared.fault_word.FaultWord.FaultWord}
 use Rattle.lc_level.specs.declared.fault_word.FaultWord.TheVariants.{Read, Name, Twice, Many, Long, Endless, Absent}

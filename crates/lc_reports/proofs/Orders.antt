@@ -105,6 +105,7 @@ module _ (part others : List Report) (one r : Report) (first : IsJoined part one
   columns_of_parts : r.columns ≡ shared_columns (part ++ others)
   columns_of_parts = is.columns ∙ (λ i. record {
     dir = None;
+    attributes = 0;
     ext = all_of_parts (λ x. x.columns.ext) (ap (λ (c : Columns). c.ext) first.columns) i;
     text = all_of_parts (λ x. x.columns.text) (ap (λ (c : Columns). c.text) first.columns) i;
     eol = all_of_parts (λ x. x.columns.eol) (ap (λ (c : Columns). c.eol) first.columns) i;

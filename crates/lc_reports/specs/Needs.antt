@@ -1,6 +1,7 @@
 -- What a sum needs of each report, and what reports have.
-use Rattle.std.specs.{Prelude.{Bool, true, false, not, ◌&&◌, ◌||◌, List, Option, Some, None, is_some, unwrap_or}, List.{find, list_all, list_any}}
-use Rattle.lc_sheet.specs.{Conditions.{ConditionModel, needs_files}, Keys.{are_one_key, columns_of, has_key, report_keys}}
+use Rattle.std.specs.Prelude.{Bool, true, false, not, ◌&&◌, ◌||◌, List, Option, Some, None, is_some, unwrap_or}
+use Rattle.std.specs.List.{find, list_all, list_any}
+use Rattle.lc_sheet.specs.{Conditions.{ConditionModel, needs_files}, Keys.{are_of_files, are_one_key, columns_of, has_key, report_keys}}
 use Rattle.lc_sheet.specs.declared.{column.Column.Column, key.Key.{Key, TheVariants.Eol}, table_options.Columns.Columns}
 use Rattle.lc_reports.specs.declared.{needs.Needs.Needs, part.Part.Part}
 use Rattle.lc_sheet.specs.declared.column.Column.TheVariants as column
@@ -25,18 +26,19 @@ tests_key cs k = list_any (is_on k) cs
 
 -- the columns that rows are grouped by, if columns are named
 abbrev pub named_columns : Option Columns → Columns
-named_columns by = unwrap_or by (record { dir = None; ext = false; text = false; eol = false })
+named_columns by = unwrap_or by (record { dir = None; attributes = 0; ext = false; text = false; eol = false })
 
-abbrev pub by_directory : Option Columns → Bool
-by_directory None = false
-by_directory (Some by) = is_some by.dir
+-- whether rows are sums over files
+abbrev pub sums_files : Option Columns → Bool
+sums_files None = false
+sums_files (Some by) = are_of_files by
 
 -- what a sum needs of each report: for rows by these columns, or by any shared column; for these conditions; and for these lists
 abbrev pub needs_of : Option Columns → List ConditionModel → Bool → Bool → Needs
 needs_of by cs files left_out = record {
   columns = columns_of (λ k. has_key (named_columns by) k || tests_key cs k);
   some_column = not (is_some by);
-  files = files || by_directory by || needs_files cs;
+  files = files || sums_files by || needs_files cs;
   left_out = left_out;
 }
 

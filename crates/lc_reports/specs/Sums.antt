@@ -2,7 +2,8 @@
 use Rattle.std.specs.{Prelude.{◌≡◌, ℕ, Bool, true, false, List, ⊤, map, Some, None, Result, MatchResult}, List.find}
 use Rattle.lc_reports.specs.{Joined.{Fits, IsJoined}, declared.{join_fault.JoinFault.JoinFault, needs.Needs.Needs, part.Part.Part}}
 use Rattle.lc_reports.specs.declared.sum_fault.SumFault.{SumFault}
-use Rattle.lc_reports.specs.declared.sum_fault.SumFault.TheVariants.{Memory, NoColumn, NoSharedColumn, NoFiles, NoSkipped, SamePath, TooLarge}
+use Rattle.lc_reports.specs.declared.sum_fault.SumFault.TheVariants.{Memory, NoColumn, NoSharedColumn, NoFiles, NoSkipped, SamePath}
+use Rattle.lc_reports.specs.declared.sum_fault.SumFault.TheVariants.{TooLarge}
 use Rattle.lc_reports.specs.{Needs.{lacking, lacks_column, lacks_files, lacks_skipped, share_some}, Paths.AreApart}
 use Rattle.lc_reports.specs.Paths.{IsFirstTwice, paths_of}
 use Rattle.lc_sheet.specs.declared.key.Key.{Key}

@@ -91,6 +91,7 @@ pub(crate) fn shared_columns(reports: &[Report]) -> Columns
 {
     Columns {
         dir: None,
+        attributes: 0,
         ext: have_key(Key::Ext, reports),
         text: have_key(Key::Text, reports),
         eol: have_key(Key::Eol, reports),

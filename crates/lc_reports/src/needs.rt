@@ -2,7 +2,7 @@
 
 ghost use Rattle.std.specs.Prelude.{◌≡◌};
 ghost use Rattle.std.specs.List.{list_any};
-ghost use Rattle.lc_reports.specs.Needs.{by_directory, is_on, is_on_key, needs_of, tests_key};
+ghost use Rattle.lc_reports.specs.Needs.{is_on, is_on_key, needs_of, sums_files, tests_key};
 
 use lc_sheet::{Column, Columns, Condition, Key, REPORT_KEYS, needs_files};
 
@@ -56,11 +56,12 @@ fn tests_key(conditions: &[Condition<'_>], key: Key) -> bool
     }
 }
 
-fn by_directory(by: Option<Columns>) -> bool
-    ensures { result ≡ by_directory by }
+/// Returns whether rows by these columns are sums over files.
+fn sums_files(by: Option<Columns>) -> bool
+    ensures { result ≡ sums_files by }
 {
     match by {
-        Some(by) => by.dir.is_some(),
+        Some(by) => by.are_of_files(),
         None => false,
     }
 }
@@ -69,8 +70,8 @@ impl Needs {
     /// Returns what is needed to sum reports by the columns `by` and to test the given conditions. If `files` is true, the sum must list
     /// files. If `left_out` is true, the sum must list skipped entries.
     ///
-    /// Rows by directory need listed files, and so do conditions on a number such as lines. If `by` is `None`, the reports need some column
-    /// in common.
+    /// Rows by directory or by attributes need listed files, and so do conditions on an attribute or on a number such as lines. If `by` is
+    /// `None`, the reports need some column in common.
     pub fn of(
         by: Option<Columns>,
         conditions: &[Condition<'_>],
@@ -83,12 +84,13 @@ impl Needs {
         Needs {
             columns: Columns {
                 dir: None,
+                attributes: 0,
                 ext: named.ext || tests_key(conditions, Key::Ext),
                 text: named.text || tests_key(conditions, Key::Text),
                 eol: named.eol || tests_key(conditions, Key::Eol),
             },
             some_column: by.is_none(),
-            files: files || by_directory(by) || needs_files(conditions),
+            files: files || sums_files(by) || needs_files(conditions),
             left_out,
         }
     }

@@ -137,17 +137,21 @@ const CASES: &[Case] = &[
 
 fn text_of(alloc: Global, read: &Report, by: Columns, files: bool) -> Result<Vec<u8>, AllocError> {
     let options = TableOptions {
-        by: Columns { dir: None, ..by },
+        by: Columns {
+            dir: None,
+            attributes: 0,
+            ..by
+        },
         files,
         ..ROWS
     };
-    let shown = Shown::of(alloc, read, &options)?;
+    let shown = Shown::of(alloc, read, &options, &[])?;
     text(alloc, options.output.sheet_format(), &shown.sheet())
 }
 
 /// Returns the reports of a text, if it is read.
 pub(super) fn reports_of(alloc: Global, text: &[u8]) -> Result<Option<Vec<Report>>, AllocError> {
-    match read_reports(alloc, text) {
+    match read_reports(alloc, text, &[]) {
         Ok(reports) => Ok(Some(reports)),
         Err(ReadFault::Memory) => Err(AllocError),
         Err(_) => Ok(None),

@@ -149,7 +149,7 @@ const ENTRIES: &[Case] = &[
 
 /// Returns the error message about a text, or an empty one if the text is read.
 pub(super) fn said_of(alloc: Global, text: &[u8]) -> Result<String, AllocError> {
-    match read_reports(alloc, text) {
+    match read_reports(alloc, text, &[]) {
         Ok(_) => Ok(String::new(alloc)),
         Err(ReadFault::Memory) => Err(AllocError),
         Err(fault) => format!(in alloc; "{fault}"),

@@ -129,6 +129,18 @@ const PARTS: &[Case] = &[
     ),
 ];
 
+const STATES: &[Case] = &[(
+    "files with states of attributes",
+    &[
+        "file - lf 1 0 2 b.c set =core\nfile - lf 1 0 2 d.c - =d",
+        "file - lf 1 0 2 c.c unset -\nfile - lf 1 0 2 a.c =set set",
+    ],
+    "file - lf 1 0 2 a.c =set set
+     file - lf 1 0 2 b.c set =core
+     file - lf 1 0 2 c.c unset -
+     file - lf 1 0 2 d.c - =d",
+)];
+
 const LISTED: &str = "
     file - lf 1 0 2 x.c
     left git .git/
@@ -233,6 +245,11 @@ fn numbers_are_added_up(rt: HostRuntime) -> Result<(), Fail> {
 #[test]
 fn parts_are_added_up_and_columns_shared(rt: HostRuntime) -> Result<(), Fail> {
     check_all(&rt, rt.alloc(), PARTS)
+}
+
+#[test]
+fn files_keep_their_states(rt: HostRuntime) -> Result<(), Fail> {
+    check_all(&rt, rt.alloc(), STATES)
 }
 
 #[test]

@@ -14,6 +14,11 @@ type Case = (&'static str, &'static str, &'static str);
 const PATHS: &[Case] = &[
     ("src", "fault read .", "fault read src"),
     ("src", "file - lf 3 1 9 x.c", "file - lf 3 1 9 src/x.c"),
+    (
+        "src",
+        "file - lf 3 1 9 x.c set - =a unset",
+        "file - lf 3 1 9 src/x.c set - =a unset",
+    ),
     ("src", "left git .git/", "left git src/.git/"),
     ("src", "fault absent d/x.c", "fault absent src/d/x.c"),
     ("../lib", "fault read .", "fault read ../lib"),

@@ -1,7 +1,7 @@
 //! Making reports from lines of text.
 
 use lc_census::Count;
-use lc_level::{FaultWord, FileAttributes, Reason};
+use lc_level::{AttributeState, FaultWord, FileAttributes, Reason};
 use lc_rules::RuleSource;
 use lc_sheet::Columns;
 use lc_tests::{eol_of_word, text_of_word};
@@ -9,6 +9,7 @@ use lc_tree::{Kind, OtherKind};
 use lc_walk::{ClassSums, FaultLine, FileLine, Report, ReportLists, SkippedLine, Sums, TallyRow};
 use std::alloc::{AllocError, Global};
 use std::str::SplitAsciiWhitespace;
+use std::sync::Arc;
 
 const FAULT_WORDS: &[FaultWord] = &[
     FaultWord::Absent,
@@ -65,6 +66,27 @@ fn row(alloc: Global, words: &mut SplitAsciiWhitespace<'_>) -> Result<TallyRow, 
     })
 }
 
+/// Returns the state that a word means: `set`, `unset`, a value after an equals sign, or unspecified.
+fn state(alloc: Global, word: &str) -> Result<AttributeState, AllocError> {
+    match (word, word.strip_prefix('=')) {
+        ("set", _) => Ok(AttributeState::Set),
+        ("unset", _) => Ok(AttributeState::Unset),
+        (_, Some(value)) => Ok(AttributeState::Value(value.as_bytes().to_vec(alloc)?)),
+        _ => Ok(AttributeState::Unspecified),
+    }
+}
+
+fn states(
+    alloc: Global,
+    words: &mut SplitAsciiWhitespace<'_>,
+) -> Result<Vec<AttributeState>, AllocError> {
+    let mut states = Vec::new(alloc);
+    for word in words {
+        states.push(state(alloc, word)?)?;
+    }
+    Ok(states)
+}
+
 fn file(alloc: Global, words: &mut SplitAsciiWhitespace<'_>) -> Result<FileLine, AllocError> {
     let text = text_of_word(next(words));
     let eol = eol_of_word(next(words));
@@ -75,7 +97,8 @@ fn file(alloc: Global, words: &mut SplitAsciiWhitespace<'_>) -> Result<FileLine,
         eol,
     };
     let path = path_of(alloc, next(words))?;
-    let attributes = FileAttributes::of_text(alloc, text)?;
+    let asked = states(alloc, words)?;
+    let attributes = Arc::new(alloc, FileAttributes { text, asked })?;
     Ok(FileLine {
         path,
         attributes,
@@ -205,6 +228,7 @@ fn put_line(alloc: Global, report: &mut Report, line: &str) -> Result<(), AllocE
 /// | `directories 2`, `entries 7` | these numbers |
 /// | `no-files`, `no-left` | no list of files, or of skipped entries |
 /// | `file - lf 5 1 40 src/a.c` | a file: the attribute `text`, the line ends; lines, blank lines, bytes; the path |
+/// | `file - lf 5 1 40 a.c set unset - =x` | a file with states of the asked attributes: set, unset, unspecified, the value `x` |
 /// | `left rule src/.gitignore:3 src/gen/` | a skipped directory, of which a rule of that file is the reason |
 /// | `left attribute export-ignore a.c` | a skipped file; an `@` at the end is a special file, and `@/` a mounted directory |
 /// | `fault read src` | a directory or a file that could not be read |

@@ -1,6 +1,6 @@
 //! Writing reports as lines of text, in the form that `reading` reads.
 
-use lc_level::Reason;
+use lc_level::{AttributeState, Reason};
 use lc_sheet::Columns;
 use lc_tests::{push_kind, push_name};
 use lc_text::{push_escaped, source_directory, source_name};
@@ -69,6 +69,21 @@ fn push_numbers(text: &mut String, report: &Report) -> Result<(), AllocError> {
     Ok(())
 }
 
+fn push_states(text: &mut String, states: &[AttributeState]) -> Result<(), AllocError> {
+    for state in states {
+        match state {
+            AttributeState::Set => text.push_str(" set")?,
+            AttributeState::Unset => text.push_str(" unset")?,
+            AttributeState::Unspecified => text.push_str(" -")?,
+            AttributeState::Value(value) => {
+                text.push_str(" =")?;
+                push_name(text, value)?;
+            }
+        }
+    }
+    Ok(())
+}
+
 fn push_file(text: &mut String, file: &FileLine) -> Result<(), AllocError> {
     let count = &file.count;
     let (state, eol) = (file.text().word().unwrap_or("-"), count.eol.as_str());
@@ -78,6 +93,7 @@ fn push_file(text: &mut String, file: &FileLine) -> Result<(), AllocError> {
         count.lines, count.blank, count.bytes
     )?;
     push_name(text, &file.path)?;
+    push_states(text, &file.attributes.asked)?;
     text.push_str("\n")
 }
 

@@ -5,6 +5,12 @@ use lc_sheet::{Column, Columns, Comparison, Condition, Key, Number, Test};
 use std::process::Abort;
 use std::test::Fail;
 
+const BY_ATTRIBUTES: Columns = Columns {
+    attributes: 2,
+    eol: true,
+    ..Columns::NONE
+};
+
 const BY_DIRECTORY: Columns = Columns {
     dir: Some(1),
     text: true,
@@ -21,6 +27,7 @@ fn among(column: Column) -> Condition<'static> {
 fn columns(ext: bool, text: bool, eol: bool) -> Columns {
     Columns {
         dir: None,
+        attributes: 0,
         ext,
         text,
         eol,
@@ -37,6 +44,8 @@ fn columns_are_needed(rt: HostRuntime) -> Result<(), Fail> {
     assert!(rt; shared.files && !shared.left_out);
     let directories = Needs::of(Some(BY_DIRECTORY), &[], false, false);
     assert!(rt; directories.columns == columns(false, true, false) && directories.files);
+    let attributes = Needs::of(Some(BY_ATTRIBUTES), &[], false, false);
+    assert!(rt; attributes.columns == columns(false, false, true) && attributes.files);
     Ok(())
 }
 
@@ -54,5 +63,8 @@ fn conditions_need_columns(rt: HostRuntime) -> Result<(), Fail> {
     };
     let lines = Needs::of(None, &[number], false, false);
     assert!(rt; lines.columns == columns(false, false, false) && lines.files);
+    let attribute = among(Column::Key(Key::Attribute(1)));
+    let states = Needs::of(None, &[attribute], false, false);
+    assert!(rt; states.columns == columns(false, false, false) && states.files);
     Ok(())
 }

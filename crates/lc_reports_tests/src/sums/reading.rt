@@ -22,7 +22,7 @@ fn push_parts(
     text: &str,
     parts: &mut Vec<Part<'static>>,
 ) -> Result<(), AllocError> {
-    match read_reports(alloc, text.as_bytes()) {
+    match read_reports(alloc, text.as_bytes(), &[]) {
         Ok(reports) => {
             for report in reports {
                 parts.push(Part { origin, report })?;

@@ -124,7 +124,7 @@ fn said_of(alloc: Global, needs: Needs, texts: &[Text]) -> Result<String, AllocE
         Ok(_) => Ok(String::new(alloc)),
         Err(SumFault::Memory) => Err(AllocError),
         Err(SumFault::NoColumn(origin, key)) => {
-            format!(in alloc; "{origin} has no {}", key.name())
+            format!(in alloc; "{origin} has no {}", key.name(&[]))
         }
         Err(SumFault::NoSharedColumn) => String::from_str(alloc, "no column"),
         Err(SumFault::NoFiles(origin)) => format!(in alloc; "{origin} has no files"),
