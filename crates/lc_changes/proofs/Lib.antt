@@ -9,3 +9,4 @@ mod RowsCompared
 mod SelfLaw
 mod Sides
 mod TablesLaw
+pub mod Attributes

@@ -11,13 +11,14 @@ use Rattle.lc_changes.specs.{ChangeColumns.{changed_columns, changed_sums_column
 use Rattle.lc_changes.specs.{ChangeSheets.{form_by, other_sums, total_sums}, ChangeValues.{ChangedSumsModel, changed_sums_value}}
 use Rattle.lc_changes.specs.{ChangeValues.{changed_value, file_change_value}, Changes.{ChangedRowModel, AreChangesSorted, AreCompared}}
 use Rattle.lc_changes.specs.{Changes.{changed_key, differs, kept_rows, sums_at}, FileChanges.{FileChangeModel, AreFileChangesSorted}}
-use Rattle.lc_changes.specs.FileChanges.{AreFilesChanged, AreFilesCompared, IsFileAt, are_same_counts, changed_path, file_path}
-use Rattle.lc_changes.specs.{FileChanges.{is_changed, same_path, sides_differ}, Laws.{SelfLaw, has_no_line}}
+use Rattle.lc_changes.specs.FileChanges.{AreFilesChanged, AreFilesCompared, IsFileAt, are_same_counts, changed_path, compared_key}
+use Rattle.lc_changes.specs.{FileChanges.{file_path, is_changed, same_path, sides_differ}, Laws.{SelfLaw, has_no_line}}
 use Rattle.lc_level.specs.Level.{FileLineModel}
-use Rattle.lc_rows.specs.{RowKeys.ShownRowModel, Sheets.section_of, ShownRows.parts_of, Views.{first_of, rest_of}}
+use Rattle.lc_rows.proofs.SameKeys.{row_key_cmp_total}
+use Rattle.lc_rows.specs.{RowKeys.ShownRowModel, Sheets.{section_of, with_attributes}, ShownRows.parts_of, Views.{first_of, rest_of}}
 use Rattle.lc_sheet.specs.{Sheets.lines_of, Values.ValueModel, declared.column.{Column.Column, Number.Number}}
 use Rattle.lc_tree.specs.ByteOrder.{AreApart, bytes_cmp}
-use Rattle.lc_walk.specs.{Key.{eol_place, text_place}, declared.tally.sums.Sums.Sums}
+use Rattle.lc_walk.specs.declared.tally.sums.Sums.{Sums}
 
 -- ---- rows
 
@@ -113,13 +114,10 @@ one_at (f ∷ fs) a b apart has_a has_b same =
     (λ in_b. one_at fs a b apart.1 in_a in_b same) has_b)
     has_a
 
-five : (a b c d e : Bool) → a ≡ true → b ≡ true → c ≡ true → d ≡ true → e ≡ true → not (a && b && c && d && e) ≡ false
-five a b c d e f g h j k = λ i. not (f i && g i && h i && j i && k i)
-
-is_itself : (f : FileLineModel) → not (are_same_counts f f) ≡ false
-is_itself f =
-    five _ _ _ _ _ (same_number (text_place f.text)) (same_number (eol_place f.count.eol)) (same_number f.count.lines)
-    (same_number f.count.blank) (same_number f.count.bytes)
+is_itself : (n : ℕ) (f : FileLineModel) → not (are_same_counts n f f) ≡ false
+is_itself n f =
+    four _ _ _ _ (ap is_eq (tied_itself row_key_cmp_total (compared_key n f))) (same_number f.count.lines) (same_number f.count.blank)
+    (same_number f.count.bytes)
 
 -- a file that a report has at a path is not missing there
 pub not_missing : (fs : List FileLineModel) (path : List ℕ) (f : FileLineModel) → Contains fs f → f.path ≡ path
@@ -131,57 +129,58 @@ not_missing fs path f has is missing =
     ∙ ap is_eq (tied_itself nat_list_cmp_total path)) in
     absurd (cc)
 
-sides_same : (fs : List FileLineModel) (path : List ℕ) (old new : Option FileLineModel) → AreApart (map file_path fs) → IsFileAt fs path old
-    → IsFileAt fs path new → sides_differ old new ≡ false
-sides_same fs path None None apart old new = refl
-sides_same fs path None (Some b) apart old new = not_missing fs path b new.0 new.1 old
-sides_same fs path (Some a) None apart old new = not_missing fs path a old.0 old.1 new
-sides_same fs path (Some a) (Some b) apart old new =
-    ap (λ f. not (are_same_counts a f)) (sym (one_at fs a b apart old.0 new.0 (old.1 ∙ sym new.1))) ∙ is_itself a
+sides_same : (n : ℕ) (fs : List FileLineModel) (path : List ℕ) (old new : Option FileLineModel) → AreApart (map file_path fs)
+    → IsFileAt fs path old → IsFileAt fs path new → sides_differ n old new ≡ false
+sides_same n fs path None None apart old new = refl
+sides_same n fs path None (Some b) apart old new = not_missing fs path b new.0 new.1 old
+sides_same n fs path (Some a) None apart old new = not_missing fs path a old.0 old.1 new
+sides_same n fs path (Some a) (Some b) apart old new =
+    ap (λ f. not (are_same_counts n a f)) (sym (one_at fs a b apart old.0 new.0 (old.1 ∙ sym new.1))) ∙ is_itself n a
 
-files_same : (fs : List FileLineModel) (compared : List FileChangeModel) → AreApart (map file_path fs) → AreFilesCompared fs fs compared
-    → filter is_changed compared ≡ []
-files_same fs compared apart are =
-    none_kept is_changed compared
+files_same : (n : ℕ) (fs : List FileLineModel) (compared : List FileChangeModel) → AreApart (map file_path fs)
+    → AreFilesCompared fs fs compared → filter (is_changed n) compared ≡ []
+files_same n fs compared apart are =
+    none_kept (is_changed n) compared
     (both_hold (λ (c : FileChangeModel). IsFileAt fs (changed_path c) c.old_file)
-    (λ (c : FileChangeModel). IsFileAt fs (changed_path c) c.new_file) (λ c. is_changed c ≡ false)
-    (λ c old new. sides_same fs (changed_path c) c.old_file c.new_file apart old new) compared
+    (λ (c : FileChangeModel). IsFileAt fs (changed_path c) c.new_file) (λ c. is_changed n c ≡ false)
+    (λ c old new. sides_same n fs (changed_path c) c.old_file c.new_file apart old new) compared
     (recursion_from_All _ compared are.old) (recursion_from_All _ compared are.new))
 
-no_files : (listed : Bool) (fs : List FileLineModel) (files : List FileChangeModel) → AreApart (map file_path fs)
-    → AreFilesChanged listed fs fs files → files ≡ []
-no_files true fs files apart (compared, are, is) = is ∙ files_same fs compared apart are
-no_files false fs files apart is = is
+no_files : (listed : Bool) (n : ℕ) (fs : List FileLineModel) (files : List FileChangeModel) → AreApart (map file_path fs)
+    → AreFilesChanged listed n fs fs files → files ≡ []
+no_files true n fs files apart (compared, are, is) = is ∙ files_same n fs compared apart are
+no_files false n fs files apart is = is
 
 -- ---- what is shown
 
-no_lines : (listed : Bool) (top : Option ℕ) (value : FileChangeModel → Column → ValueModel) (columns : List Column)
-    → has_no_line (if listed then Some (section_of value columns (first_of top [])) else None)
-no_lines true top value columns = ap (λ l. lines_of value columns l) (none_first top)
-no_lines false top value columns = tt
+no_lines : (listed : Bool) (attributes : List (List ℕ)) (top : Option ℕ) (value : FileChangeModel → Column → ValueModel)
+    (columns : List Column)
+    → has_no_line (if listed then Some (with_attributes attributes (section_of value columns (first_of top []))) else None)
+no_lines true attributes top value columns = ap (λ l. lines_of value columns l) (none_first top)
+no_lines false attributes top value columns = tt
 
 pub self_law : SelfLaw
-self_law options r c apart are =
+self_law options attributes r c apart are =
     let same : AllByRecursion (λ r. differs r ≡ false) are.rows =
     rows_same (parts_of options.by r.rows.items r.files.items) are.rows are.are_rows in
-    let no_file : are.files ≡ [] = no_files options.files r.files.items are.files apart are.are_files in
+    let no_file : are.files ≡ [] = no_files options.files options.by.attributes r.files.items are.files apart are.are_files in
     let none_listed : are.listed ≡ [] = no_files_sorted options.sort are.files are.listed no_file are.are_listed in
     let none_shown : options.all ≡ false → are.shown ≡ [] =
     λ some. none_sorted options.sort (kept_rows options.all are.rows) are.shown
     (ap (λ all. kept_rows all are.rows) some ∙ none_kept differs are.rows same) are.are_shown in
     let total : List ChangedSumsModel = total_sums r.totals r.totals in
     record {
-      differ = are.is_differ ∙ (λ i. none_passes differs are.rows same i || list_any is_changed (no_file i));
+      differ = are.is_differ ∙ (λ i. none_passes differs are.rows same i || list_any (is_changed options.by.attributes) (no_file i));
       rows = λ some. ap (λ s. s.rows.lines) are.is_sheet
-          ∙ ap (λ rows. (comparison_of options total rows are.listed).rows.lines) (none_shown some)
+          ∙ ap (λ rows. (comparison_of options attributes total rows are.listed).rows.lines) (none_shown some)
           ∙ ap (λ rows. lines_of (changed_value (form_by options.format options.by)) (changed_columns options.format options.by) rows)
           (none_first options.top);
       others = λ some. ap (λ s. s.others.lines) are.is_sheet
-          ∙ ap (λ rows. (comparison_of options total rows are.listed).others.lines) (none_shown some)
+          ∙ ap (λ rows. (comparison_of options attributes total rows are.listed).others.lines) (none_shown some)
           ∙ ap (λ rows. lines_of (changed_sums_value (form_by options.format options.by))
           (changed_sums_columns options.format (changed_columns options.format options.by)) (other_sums rows)) (none_left options.top);
       files = subst has_no_line (sym (ap (λ s. s.files) are.is_sheet
-          ∙ ap (λ files. (comparison_of options total are.shown files).files) none_listed))
-          (no_lines options.files options.top (file_change_value (form_by options.format options.by))
+          ∙ ap (λ files. (comparison_of options attributes total are.shown files).files) none_listed))
+          (no_lines options.files attributes options.top (file_change_value (form_by options.format options.by))
           (file_change_columns options.format options.by));
     }

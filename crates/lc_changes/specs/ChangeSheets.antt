@@ -1,13 +1,14 @@
 -- What a comparison of two reports shows.
-use Rattle.std.specs.Prelude.{◌≡◌, ℕ, true, false, Bool, ◌||◌, if◌then◌else◌, is_some, List, [], ◌∷◌, codes, Option, Some, None}
+use Rattle.std.specs.Prelude.{◌≡◌, ℕ, true, false, Bool, ◌||◌, if◌then◌else◌, List, [], ◌∷◌, codes, Option, Some, None}
 use Rattle.std.specs.List.{list_any}
 use Rattle.lc_changes.specs.{ChangeColumns.{changed_columns, changed_sums_columns, file_change_columns}, ChangeValues.ChangedSumsModel}
 use Rattle.lc_changes.specs.{ChangeValues.{changed_sums_value, changed_value, file_change_value}, Changes.ChangedRowModel}
 use Rattle.lc_changes.specs.Changes.{AreChangesSorted, AreCompared, differs, kept_rows, new_sums_of, old_sums_of}
 use Rattle.lc_changes.specs.FileChanges.{FileChangeModel, AreFileChangesSorted, AreFilesChanged, is_changed}
 use Rattle.lc_changes.specs.declared.options.ChangeOptions.{ChangeOptions}
-use Rattle.lc_rows.specs.{SheetColumns.{first_key, keeps_columns}, Sheets.section_of, ShownRows.parts_of, Views.{first_of, rest_of}}
-use Rattle.lc_sheet.specs.{Sheets.{SectionModel, SheetModel}, declared.{column.Column.Column, form.Form.Form}}
+use Rattle.lc_rows.specs.{SheetColumns.{first_key, keeps_columns}, Sheets.{section_of, with_attributes}, ShownRows.parts_of}
+use Rattle.lc_rows.specs.Views.{first_of, rest_of}
+use Rattle.lc_sheet.specs.{Keys.are_of_files, Sheets.{SectionModel, SheetModel}, declared.{column.Column.Column, form.Form.Form}}
 use Rattle.lc_sheet.specs.declared.table_options.{Columns.Columns, Format.Format}
 use Rattle.lc_walk.specs.declared.{options.ReportLists.ReportLists, report.Report.Report, tally.sums.Sums.Sums}
 
@@ -30,10 +31,12 @@ total_sums old new = sums_line (codes "total") old new ∷ []
 
 -- ---- the comparison
 
--- what is shown of a comparison: the format and the form; the columns of rows and of files; the rows; the sums; the files, if they are listed
+-- what is shown of a comparison: the format and the form; the columns of attributes, of rows and of files; the rows; the sums; the files,
+-- if they are listed
 pub record ShownChangesModel : Type 0 where
   pub format : Format
   pub form : Form
+  pub attributes : List (List ℕ)
   pub columns : List Column
   pub file_columns : List Column
   pub rows : List ChangedRowModel
@@ -44,11 +47,11 @@ pub record ShownChangesModel : Type 0 where
 
 abbrev pub files_section : ShownChangesModel → Option SectionModel
 files_section m =
-    if m.lists_files then Some (section_of (file_change_value m.form) m.file_columns m.files) else None
+    if m.lists_files then Some (with_attributes m.attributes (section_of (file_change_value m.form) m.file_columns m.files)) else None
 
 abbrev pub comparison_with : ShownChangesModel → SheetModel
 comparison_with m = record {
-  rows = section_of (changed_value m.form) m.columns m.rows;
+  rows = with_attributes m.attributes (section_of (changed_value m.form) m.columns m.rows);
   others = section_of (changed_sums_value m.form) (changed_sums_columns m.format m.columns) m.others;
   totals = section_of (changed_sums_value m.form) (changed_sums_columns m.format m.columns) m.total;
   compares = true;
@@ -61,10 +64,11 @@ comparison_with m = record {
 }
 
 -- the comparison that shows the first of these sorted rows and files, the sums over the other rows, and this total
-abbrev pub comparison_of : ChangeOptions → List ChangedSumsModel → List ChangedRowModel → List FileChangeModel → SheetModel
-comparison_of options total rows files = comparison_with (record {
+abbrev pub comparison_of : ChangeOptions → List (List ℕ) → List ChangedSumsModel → List ChangedRowModel → List FileChangeModel → SheetModel
+comparison_of options attributes total rows files = comparison_with (record {
   format = options.format;
   form = form_by options.format options.by;
+  attributes = attributes;
   columns = changed_columns options.format options.by;
   file_columns = file_change_columns options.format options.by;
   rows = first_of options.top rows;
@@ -79,28 +83,26 @@ pub record ChangesModel : Type 0 where
   pub sheet : SheetModel
   pub some_differ : Bool
 
-abbrev pub shown_with : ChangeOptions → List ChangedSumsModel → List ChangedRowModel → List FileChangeModel → Bool → ChangesModel
-shown_with options total rows files differ = record { sheet = comparison_of options total rows files; some_differ = differ }
+-- whether a row or a file differs; the first n attributes of files are compared
+abbrev pub some_differ : ℕ → List ChangedRowModel → List FileChangeModel → Bool
+some_differ n rows files = list_any differs rows || list_any (is_changed n) files
 
-abbrev pub some_differ : List ChangedRowModel → List FileChangeModel → Bool
-some_differ rows files = list_any differs rows || list_any is_changed files
-
--- the comparison of two reports with these options
-pub record AreChangesOf (options : ChangeOptions) (old new : Report) (c : ChangesModel) : Type 0 where
+-- the comparison of two reports with these options, and these names of attributes
+pub record AreChangesOf (options : ChangeOptions) (attributes : List (List ℕ)) (old new : Report) (c : ChangesModel) : Type 0 where
   pub rows : List ChangedRowModel
   pub are_rows : AreCompared (parts_of options.by old.rows.items old.files.items) (parts_of options.by new.rows.items new.files.items) rows
   pub shown : List ChangedRowModel
   pub are_shown : AreChangesSorted options.sort (kept_rows options.all rows) shown
   pub files : List FileChangeModel
-  pub are_files : AreFilesChanged options.files old.files.items new.files.items files
+  pub are_files : AreFilesChanged options.files options.by.attributes old.files.items new.files.items files
   pub listed : List FileChangeModel
   pub are_listed : AreFileChangesSorted options.sort files listed
-  pub is_sheet : c.sheet ≡ comparison_of options (total_sums old.totals new.totals) shown listed
-  pub is_differ : c.some_differ ≡ some_differ rows files
+  pub is_sheet : c.sheet ≡ comparison_of options attributes (total_sums old.totals new.totals) shown listed
+  pub is_differ : c.some_differ ≡ some_differ options.by.attributes rows files
 
--- whether a comparison needs the files of both reports: rows by directory and the list of files are made of the files
+-- whether a comparison needs the files of both reports: rows by directories or attributes, and the list of files, are made of the files
 abbrev pub needs_files : ChangeOptions → Bool
-needs_files options = if options.files then true else is_some options.by.dir
+needs_files options = options.files || are_of_files options.by
 
 abbrev pub HasFilesFor : ChangeOptions → ReportLists → Type 0
 HasFilesFor options lists = needs_files options ≡ true → lists.files ≡ true

@@ -1,13 +1,12 @@
 -- The files of a comparison: files that one report alone has, and files that differ between both.
-use Rattle.std.specs.{Prelude.{◌≡◌, ℕ, ◌==◌, Bool, true, false, ◌&&◌, ◌||◌, not, List, [], map, filter, Option, Some, None}, Bool.MatchBool}
+use Rattle.std.specs.Prelude.{◌≡◌, ℕ, ◌==◌, Bool, true, false, ◌&&◌, ◌||◌, not, List, [], map, filter, take, Option, Some, None}
 use Rattle.std.specs.{List.{All, Contains, list_any, Sorted.{IsPermutation, IsSorted, IsStrictlySortedBy}}, Option.{MatchOption, option_or}}
-use Rattle.std.specs.{Option.option_map_or, Ordering.{eq_by_cmp, nat_cmp, on, then_cmp}, declared.cmp.Ordering.Ordering}
+use Rattle.std.specs.{Bool.MatchBool, Option.option_map_or, Ordering.{eq_by_cmp, nat_cmp, on, then_cmp}, declared.cmp.Ordering.Ordering}
 use Rattle.lc_changes.specs.{Changes.distance, Pairs.{PairModel, removed, added, both}}
 use Rattle.lc_level.specs.Level.{FileLineModel}
-use Rattle.lc_rows.specs.ShownFiles.{file_number}
+use Rattle.lc_rows.specs.{RowKeys.{RowKey, same_row_key}, ShownFiles.file_number}
 use Rattle.lc_sheet.specs.declared.column.Number.{Number}
 use Rattle.lc_tree.specs.ByteOrder.{bytes_cmp}
-use Rattle.lc_walk.specs.Key.{eol_place, text_place}
 
 -- a file in the old report and in the new one, if they have it
 pub record FileChangeModel : Type 0 where
@@ -50,25 +49,32 @@ pub record AreFilesCompared (olds news : List FileLineModel) (changes : List Fil
 
 -- ---- what changed
 
--- whether two files are alike in all but their paths
-abbrev pub are_same_counts : FileLineModel → FileLineModel → Bool
-are_same_counts a b = text_place a.text == text_place b.text && eol_place a.count.eol == eol_place b.count.eol
+-- what is compared of a file beside its numbers: the states of the first n attributes, the state of `text`, and how its lines end
+abbrev pub compared_key : ℕ → FileLineModel → RowKey
+compared_key n f = record {
+  directory = None;
+  key = record { attributes = take n f.asked; tally = record { extension = None; text = f.text; eol = f.count.eol } };
+}
+
+-- whether two files are alike in all but their paths and the states of attributes after the first n
+abbrev pub are_same_counts : ℕ → FileLineModel → FileLineModel → Bool
+are_same_counts n a b = same_row_key (compared_key n a) (compared_key n b)
     && a.count.lines == b.count.lines && a.count.blank == b.count.blank && a.count.bytes == b.count.bytes
 
-abbrev pub sides_differ : Option FileLineModel → Option FileLineModel → Bool
-sides_differ (Some a) (Some b) = not (are_same_counts a b)
-sides_differ (Some a) None = true
-sides_differ None (Some b) = true
-sides_differ None None = false
+abbrev pub sides_differ : ℕ → Option FileLineModel → Option FileLineModel → Bool
+sides_differ n (Some a) (Some b) = not (are_same_counts n a b)
+sides_differ n (Some a) None = true
+sides_differ n None (Some b) = true
+sides_differ n None None = false
 
--- whether a file was added, removed or changed
-abbrev pub is_changed : FileChangeModel → Bool
-is_changed c = sides_differ c.old_file c.new_file
+-- whether a file was added, removed or changed; its first n attributes are compared
+abbrev pub is_changed : ℕ → FileChangeModel → Bool
+is_changed n c = sides_differ n c.old_file c.new_file
 
 -- the files that a comparison lists: those that were added, removed or changed, or none at all
-abbrev pub AreFilesChanged : Bool → List FileLineModel → List FileLineModel → List FileChangeModel → Type 0
-AreFilesChanged listed olds news changes = MatchBool listed
-    ((compared : List FileChangeModel) × AreFilesCompared olds news compared × (changes ≡ filter is_changed compared))
+abbrev pub AreFilesChanged : Bool → ℕ → List FileLineModel → List FileLineModel → List FileChangeModel → Type 0
+AreFilesChanged listed n olds news changes = MatchBool listed
+    ((compared : List FileChangeModel) × AreFilesCompared olds news compared × (changes ≡ filter (is_changed n) compared))
     (changes ≡ [])
 
 -- ---- their order

@@ -1,5 +1,5 @@
 -- What is true of comparisons.
-use Rattle.std.specs.{Prelude.{◌≡◌, Bool, false, ◌||◌, List, [], map, Option}, List.{All, list_any}, Option.MatchOption}
+use Rattle.std.specs.{Prelude.{◌≡◌, ℕ, Bool, false, ◌||◌, List, [], map, Option}, List.{All, list_any}, Option.MatchOption}
 use Rattle.lc_changes.specs.{ChangeSheets.{AreChangesOf, ChangesModel}, ChangeValues.{ChangedSumsModel, changed_sums_value, changed_value}}
 use Rattle.lc_changes.specs.{ChangeValues.file_change_value, Changes.{ChangedRowModel, AreCompared, changed_key, new_sums_of, old_sums_of}}
 use Rattle.lc_changes.specs.{Changes.sums_at, FileChanges.{FileChangeModel, AreFilesCompared, file_path}}
@@ -28,8 +28,8 @@ pub record HasNoChange (options : ChangeOptions) (c : ChangesModel) : Type 0 whe
 -- a report in which no path is twice does not differ from itself
 abbrev pub SelfLaw : Type 0
 SelfLaw =
-    (options : ChangeOptions) (r : Report) (c : ChangesModel) → AreApart (map file_path r.files.items) → AreChangesOf options r r c
-    → HasNoChange options c
+    (options : ChangeOptions) (attributes : List (List ℕ)) (r : Report) (c : ChangesModel) → AreApart (map file_path r.files.items)
+    → AreChangesOf options attributes r r c → HasNoChange options c
 
 -- ---- rows, and those of tables
 

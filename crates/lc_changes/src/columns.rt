@@ -1,7 +1,9 @@
 //! The columns that each section of a comparison has in each format.
 
-ghost use Rattle.std.specs.Prelude.{◌≡◌, IfOk};
-ghost use Rattle.lc_changes.specs.ChangeColumns.{changed_columns, changed_numbers, changed_sums_columns, file_change_columns};
+ghost use Rattle.std.specs.Prelude.{◌≡◌, ◌++◌, map, flat_map, IfOk, OnOk};
+ghost use Rattle.lc_changes.specs.ChangeColumns.{changed_columns, changed_numbers, changed_sums_columns, compared_attributes};
+ghost use Rattle.lc_changes.specs.ChangeColumns.{file_change_columns, in_turn, recorded_by_report, recorded_in_turn};
+ghost use Rattle.lc_sheet.specs.declared.column.Column.TheVariants.{New, Old};
 
 use lc_rows::{keeps_columns, push_if, push_keys};
 use lc_sheet::{Column, Columns, Compared, Format, Key, Number};
@@ -57,13 +59,17 @@ const VALUES_IN_TURN: [Column; 10] = [
     Column::New(Compared::Number(Number::Bytes)),
 ];
 
-/// The values of a file in the old report, and then its values in the new report.
-const VALUES_BY_REPORT: [Column; 10] = [
+/// The values of a file in the old report.
+const OLD_VALUES: [Column; 5] = [
     Column::Old(Compared::Key(Key::Text)),
     Column::Old(Compared::Key(Key::Eol)),
     Column::Old(Compared::Number(Number::Lines)),
     Column::Old(Compared::Number(Number::Blank)),
     Column::Old(Compared::Number(Number::Bytes)),
+];
+
+/// The values of a file in the new report.
+const NEW_VALUES: [Column; 5] = [
     Column::New(Compared::Key(Key::Text)),
     Column::New(Compared::Key(Key::Eol)),
     Column::New(Compared::Number(Number::Lines)),
@@ -113,7 +119,58 @@ pub(crate) fn changed_sums_columns(format: Format, rows: &[Column]) -> &[Column]
     }
 }
 
-/// Makes the columns of a comparison's list of files. In records, files have their directory if rows are by directory.
+/// Adds the columns of the first attributes: each in the old report, followed by the same in the new report.
+fn push_attributes_in_turn(columns: &mut Vec<Column>, count: u8) -> Result<(), AllocError>
+    ensures { OnOk result (columns.new.items ≡ columns.old.items ++ flat_map in_turn (compared_attributes count)) }
+{
+    for place in 0..count {
+        let attribute = Compared::Key(Key::Attribute(place));
+        columns.extend_from_slice(&[Column::Old(attribute), Column::New(attribute)])?;
+    }
+    Ok(())
+}
+
+/// Adds the columns of the first attributes in the old report.
+fn push_old_attributes(columns: &mut Vec<Column>, count: u8) -> Result<(), AllocError>
+    ensures { OnOk result (columns.new.items ≡ columns.old.items ++ map Old (compared_attributes count)) }
+{
+    for place in 0..count {
+        columns.push(Column::Old(Compared::Key(Key::Attribute(place))))?;
+    }
+    Ok(())
+}
+
+/// Adds the columns of the first attributes in the new report.
+fn push_new_attributes(columns: &mut Vec<Column>, count: u8) -> Result<(), AllocError>
+    ensures { OnOk result (columns.new.items ≡ columns.old.items ++ map New (compared_attributes count)) }
+{
+    for place in 0..count {
+        columns.push(Column::New(Compared::Key(Key::Attribute(place))))?;
+    }
+    Ok(())
+}
+
+/// Adds the columns of the values of files in records, with those of the first attributes: each value of the old report, followed by the
+/// same value of the new report.
+fn push_values_in_turn(columns: &mut Vec<Column>, attributes: u8) -> Result<(), AllocError>
+    ensures { OnOk result (columns.new.items ≡ columns.old.items ++ recorded_in_turn attributes) }
+{
+    push_attributes_in_turn(columns, attributes)?;
+    columns.extend_from_slice(&VALUES_IN_TURN)
+}
+
+/// Adds the columns of the values of files in records, with those of the first attributes: the values of the old report, and then those of
+/// the new report.
+fn push_values_by_report(columns: &mut Vec<Column>, attributes: u8) -> Result<(), AllocError>
+    ensures { OnOk result (columns.new.items ≡ columns.old.items ++ recorded_by_report attributes) }
+{
+    push_old_attributes(columns, attributes)?;
+    columns.extend_from_slice(&OLD_VALUES)?;
+    push_new_attributes(columns, attributes)?;
+    columns.extend_from_slice(&NEW_VALUES)
+}
+
+/// Makes the columns of a comparison's list of files. In records, files have the directory and the attributes that rows are grouped by.
 pub(crate) fn file_change_columns(
     alloc: Global,
     format: Format,
@@ -132,13 +189,13 @@ pub(crate) fn file_change_columns(
             columns.extend_from_slice(&[Column::Path, Column::Change])?;
             push_if(&mut columns, by.dir.is_some(), Column::Key(Key::Dir))?;
             columns.push(Column::Key(Key::Ext))?;
-            columns.extend_from_slice(&VALUES_IN_TURN)?;
+            push_values_in_turn(&mut columns, by.attributes)?;
         }
         Format::Json => {
             columns.push(Column::Path)?;
             push_if(&mut columns, by.dir.is_some(), Column::Key(Key::Dir))?;
             columns.extend_from_slice(&[Column::Key(Key::Ext), Column::Change])?;
-            columns.extend_from_slice(&VALUES_BY_REPORT)?;
+            push_values_by_report(&mut columns, by.attributes)?;
         }
         Format::Table | Format::Markdown => columns.extend_from_slice(&READ_FILES)?,
     }

@@ -1,11 +1,12 @@
 //! A line about a file in a comparison: what the old and the new report have at one path.
 
 ghost use Rattle.std.specs.Prelude.{◌≡◌, option_map};
-ghost use Rattle.lc_changes.specs.FileChanges.{are_same_counts, changed_path, either_file, file_change, is_changed, side_number};
+ghost use Rattle.lc_changes.specs.FileChanges.{are_same_counts, changed_path, compared_key, either_file, file_change};
+ghost use Rattle.lc_changes.specs.FileChanges.{is_changed, side_number};
 ghost use Rattle.lc_changes.specs.ChangeValues.{change_word};
 
 use crate::changed_row::distance;
-use lc_rows::number_of;
+use lc_rows::{RowKeyRef, number_of, split_at_top};
 use lc_sheet::Number;
 use lc_walk::FileLine;
 use std::marker::Model;
@@ -28,12 +29,26 @@ impl<'a> Model for FileChange<'a> {
     ghost view = { λ c. record { old_file = option_map (λ f. f.now) c.old_file; new_file = option_map (λ f. f.now) c.new_file } };
 }
 
-/// Returns whether two files are alike in all but their paths.
-fn are_same_counts(a: &FileLine, b: &FileLine) -> bool
-    ensures { result ≡ are_same_counts a.now b.now }
+/// Returns what is compared of a file beside its numbers. Of the states of attributes, only the first ones are.
+fn compared_key(attributes: u8, file: &FileLine) -> RowKeyRef<'_>
+    ensures { result ≡ compared_key attributes file.entry.now }
 {
-    a.text() == b.text()
-        && a.count.eol == b.count.eol
+    let (states, _) = split_at_top(Some(u32::from(attributes)), &file.attributes.asked);
+    RowKeyRef {
+        directory: None,
+        attributes: states,
+        extension: None,
+        text: file.text(),
+        eol: file.count.eol,
+    }
+}
+
+/// Returns whether two files are alike in all but their paths and the states of attributes after the first ones.
+fn are_same_counts(attributes: u8, a: &FileLine, b: &FileLine) -> bool
+    ensures { result ≡ are_same_counts attributes a.now b.now }
+{
+    let key = compared_key(attributes, a);
+    key.compare(&compared_key(attributes, b)).is_eq()
         && a.count.lines == b.count.lines
         && a.count.blank == b.count.blank
         && a.count.bytes == b.count.bytes
@@ -70,12 +85,12 @@ impl<'a> FileChange<'a> {
         }
     }
 
-    /// Returns whether the file is in one report alone, or differs between the reports.
-    pub(crate) fn is_changed(&self) -> bool
-        ensures { result ≡ is_changed self.now }
+    /// Returns whether the file is in one report alone, or differs between the reports, also in one of its first `attributes` attributes.
+    pub(crate) fn is_changed(&self, attributes: u8) -> bool
+        ensures { result ≡ is_changed attributes self.now }
     {
         match (self.old_file, self.new_file) {
-            (Some(old), Some(new)) => !are_same_counts(old, new),
+            (Some(old), Some(new)) => !are_same_counts(attributes, old, new),
             (None, None) => false,
             _ => true,
         }

@@ -96,25 +96,27 @@ fn compared_files<'a>(
 }
 
 /// Removes the files that are the same in both reports.
-fn keep_changed(files: &mut Vec<FileChange<'_>>)
-    ensures { files.new.items ≡ filter is_changed files.old.items }
+fn keep_changed(attributes: u8, files: &mut Vec<FileChange<'_>>)
+    ensures { files.new.items ≡ filter (is_changed attributes) files.old.items }
 {
-    files.retain(|file| file.is_changed());
+    files.retain(|file| file.is_changed(attributes));
 }
 
-/// Returns the files that differ between two reports, in the order of their paths. Returns no files if `listed` is false.
+/// Returns the files that differ between two reports, in the order of their paths. Their first `attributes` attributes are compared too.
+/// Returns no files if `listed` is false.
 pub(crate) fn changed_files<'a>(
     alloc: Global,
     old: &'a Report,
     new: &'a Report,
     listed: bool,
+    attributes: u8,
 ) -> Result<Vec<FileChange<'a>>, AllocError>
-    ensures { IfOk result (λ files. AreFilesChanged listed old.entry.now.files.items new.entry.now.files.items files.items) }
+    ensures { IfOk result (λ files. AreFilesChanged listed attributes old.entry.now.files.items new.entry.now.files.items files.items) }
 {
     if !listed {
         return Ok(Vec::new(alloc));
     }
     let mut files = compared_files(alloc, &old.files, &new.files)?;
-    keep_changed(&mut files);
+    keep_changed(attributes, &mut files);
     Ok(files)
 }

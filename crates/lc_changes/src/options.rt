@@ -15,7 +15,7 @@ pub struct ChangeOptions {
     /// The largest number of rows, and of files, that the comparison shows. If this is `None`, the comparison shows all of them.
     pub top: Option<u32>,
     /// Whether the comparison lists the files that differ. If this is false, the reports may still list their files, because rows by
-    /// directory are sums over these files.
+    /// directories or attributes are sums over these files.
     pub files: bool,
     /// Whether the comparison also shows the rows in which no number changed.
     pub all: bool,

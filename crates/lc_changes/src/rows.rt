@@ -62,8 +62,8 @@ fn paired_rows<'s, 'a>(
 
 /// Adds up the counts of two reports by these columns, and pairs the sums of both reports for each key, in the order of keys.
 ///
-/// Rows by directory are sums over the files, which the reports must have. An error means that an allocation failed or that sums overflow.
-/// The sums of a walk's rows never overflow.
+/// Rows by directories or attributes are sums over the files, which the reports must have. An error means that an allocation failed or that
+/// sums overflow. The sums of a walk's rows never overflow.
 pub(crate) fn compared_rows<'a>(
     alloc: Global,
     old: &'a Report,

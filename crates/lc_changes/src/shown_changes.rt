@@ -2,7 +2,7 @@
 
 ghost use Rattle.std.specs.Prelude.{◌≡◌, IfOk};
 ghost use Rattle.std.specs.List.{list_any};
-ghost use Rattle.lc_changes.specs.ChangeSheets.{AreChangesOf, HasFilesFor, form_by, other_sums, shown_with, some_differ};
+ghost use Rattle.lc_changes.specs.ChangeSheets.{AreChangesOf, HasFilesFor, comparison_of, form_by, other_sums, some_differ};
 ghost use Rattle.lc_changes.specs.Changes.{differs};
 ghost use Rattle.lc_changes.specs.FileChanges.{is_changed};
 ghost use Rattle.lc_rows.specs.Views.{first_of, rest_of};
@@ -17,7 +17,7 @@ use crate::rows::compared_rows;
 use crate::sorting::{keep_rows, sort_files, sort_rows};
 use crate::sums::{other_sums, total_sums};
 use lc_rows::{Faults, Skipped, first_key, split_at_top};
-use lc_sheet::{Column, Columns, Form, Format, Section, Sheet};
+use lc_sheet::{AttributeColumn, Column, Columns, Form, Format, Section, Sheet};
 use lc_walk::Report;
 use std::alloc::{AllocError, Global};
 use std::marker::Model;
@@ -31,6 +31,7 @@ pub type ChangeSheet<'a> = Sheet<'a, Changes<'a>, ChangedTotals, FileChanges<'a>
 pub struct ShownChanges<'a> {
     format: Format,
     form: Form,
+    attributes: &'a [AttributeColumn],
     columns: Vec<Column>,
     file_columns: Vec<Column>,
     rows: Vec<ChangedRow<'a>>,
@@ -50,6 +51,7 @@ impl<'a> Model for ShownChanges<'a> {
       sheet = comparison_with (record {
         format = s.format;
         form = s.form;
+        attributes = s.attributes.now;
         columns = s.columns.items;
         file_columns = s.file_columns.items;
         rows = s.rows.items;
@@ -78,16 +80,16 @@ fn some_rows_differ(rows: &[ChangedRow<'_>]) -> bool
     rows.iter().any(|row| row.differs())
 }
 
-fn some_files_differ(files: &[FileChange<'_>]) -> bool
-    ensures { result ≡ list_any is_changed files.now }
+fn some_files_differ(attributes: u8, files: &[FileChange<'_>]) -> bool
+    ensures { result ≡ list_any (is_changed attributes) files.now }
 {
-    files.iter().any(|file| file.is_changed())
+    files.iter().any(|file| file.is_changed(attributes))
 }
 
-fn some_differ(rows: &[ChangedRow<'_>], files: &[FileChange<'_>]) -> bool
-    ensures { result ≡ some_differ rows.now files.now }
+fn some_differ(attributes: u8, rows: &[ChangedRow<'_>], files: &[FileChange<'_>]) -> bool
+    ensures { result ≡ some_differ attributes rows.now files.now }
 {
-    some_rows_differ(rows) || some_files_differ(files)
+    some_rows_differ(rows) || some_files_differ(attributes, files)
 }
 
 /// Makes the line of the sums over the rows after the first `top`, which are cut off. Returns no line if no row is cut off.
@@ -124,44 +126,54 @@ impl<'a> ShownChanges<'a> {
     /// report. Drops the rows in which no number changed, unless `options.all` is true. If `options.files` is true, finds the files that
     /// differ. Sorts and cuts the rows and the files.
     ///
-    /// If rows are by directory, or if `options.files` is true, both reports must list their files. An error means that an allocation
-    /// failed or that sums overflow. The sums of a walk's rows never overflow. The function takes about as long as sorting the rows and the
-    /// files of both reports. Each row of both reports takes memory while the reports are compared.
+    /// The columns of attributes have the names in `attributes`, in whose order the files of both reports have their states. A file differs
+    /// also if its state of an attribute does, but only of an attribute that rows are grouped by.
+    ///
+    /// If rows are by directories or attributes, or if `options.files` is true, both reports must list their files. An error means that an
+    /// allocation failed or that sums overflow. The sums of a walk's rows never overflow. The function takes about as long as sorting the
+    /// rows and the files of both reports. Each row of both reports takes memory while the reports are compared.
     ///
     /// ```
-    /// let changes = ShownChanges::of(alloc, &old, &new, &options)?;
+    /// let changes = ShownChanges::of(alloc, &old, &new, &options, &[])?;
     /// ```
     pub fn of(
         alloc: Global,
         old: &'a Report,
         new: &'a Report,
         options: &ChangeOptions,
+        attributes: &'a [AttributeColumn],
     ) -> Result<ShownChanges<'a>, AllocError>
         requires old_files { HasFilesFor options.now old.now.lists }
         requires new_files { HasFilesFor options.now new.now.lists }
-        ensures { IfOk result (AreChangesOf options.now old.entry.now new.entry.now) }
+        ensures { IfOk result (AreChangesOf options.now attributes.entry.now old.entry.now new.entry.now) }
     {
         let mut rows = compared_rows(alloc, old, new, options.by)?;
-        let mut files = changed_files(alloc, old, new, options.files)?;
-        let some_differ = some_differ(&rows, &files);
+        let compared = options.by.attributes;
+        let mut files = changed_files(alloc, old, new, options.files, compared)?;
+        let some_differ = some_differ(compared, &rows, &files);
         keep_rows(options.all, &mut rows);
         sort_rows(options.sort, &mut rows);
         sort_files(options.sort, &mut files);
         let total = total_sums(alloc, old, new)?;
-        let shown = ShownChanges::with_lines(alloc, options, total, rows, files, some_differ)?;
-        Ok(shown)
+        let shown = ShownChanges::with_lines(alloc, options, attributes, total, rows, files)?;
+        Ok(ShownChanges {
+            some_differ,
+            ..shown
+        })
     }
 
-    /// Keeps the first `options.top` of these rows and of these files, and adds up the rows that are cut off.
+    /// Keeps the first `options.top` of these rows and of these files, and adds up the rows that are cut off. The caller says whether
+    /// something differs.
     fn with_lines(
         alloc: Global,
         options: &ChangeOptions,
+        attributes: &'a [AttributeColumn],
         total: Vec<ChangedSums>,
         rows: Vec<ChangedRow<'a>>,
         files: Vec<FileChange<'a>>,
-        some_differ: bool,
     ) -> Result<ShownChanges<'a>, AllocError>
-        ensures { IfOk result (λ shown. shown ≡ shown_with options.now total.items rows.entry.items files.entry.items some_differ) }
+        ensures { IfOk result (λ shown. shown.sheet
+            ≡ comparison_of options.now attributes.entry.now total.items rows.entry.items files.entry.items) }
     {
         let mut rows = rows;
         let mut files = files;
@@ -171,6 +183,7 @@ impl<'a> ShownChanges<'a> {
         let shown = ShownChanges {
             format: options.format,
             form: form_by(options.format, options.by),
+            attributes,
             columns: changed_columns(alloc, options.format, options.by)?,
             file_columns: file_change_columns(alloc, options.format, options.by)?,
             rows,
@@ -178,7 +191,7 @@ impl<'a> ShownChanges<'a> {
             total,
             lists_files: options.files,
             files,
-            some_differ,
+            some_differ: false,
         };
         Ok(shown)
     }
@@ -187,7 +200,8 @@ impl<'a> ShownChanges<'a> {
         ensures { result ≡ self.entry.now.sheet.files }
     {
         if self.lists_files {
-            Some(Section::new(self.form, &self.file_columns, &self.files))
+            let files = Section::new(self.form, &self.file_columns, &self.files);
+            Some(files.with_attributes(self.attributes))
         } else {
             None
         }
@@ -198,8 +212,9 @@ impl<'a> ShownChanges<'a> {
         ensures { result ≡ self.entry.now.sheet }
     {
         let sums_columns = changed_sums_columns(self.format, &self.columns);
+        let rows = Section::new(self.form, &self.columns, &self.rows);
         Sheet {
-            rows: Section::new(self.form, &self.columns, &self.rows),
+            rows: rows.with_attributes(self.attributes),
             others: Section::new(self.form, sums_columns, &self.others),
             totals: Section::new(self.form, sums_columns, &self.total),
             compares: true,

@@ -130,7 +130,7 @@ fn files_in_any_order(rt: HostRuntime) -> Result<(), Fail> {
     let mut new = report(alloc, PLAIN)?;
     old.files.reverse();
     new.files.reverse();
-    let changes = ShownChanges::of(alloc, &old, &new, &FILES)?;
+    let changes = ShownChanges::of(alloc, &old, &new, &FILES, &[])?;
     let text = text_of(alloc, &changes)?;
     assert!(rt; text.as_slice() == ONCE.as_bytes());
     Ok(())

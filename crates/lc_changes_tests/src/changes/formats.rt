@@ -64,6 +64,7 @@ fn columns_by_format(rt: HostRuntime) -> Result<(), Fail> {
         format: Format::Json,
         by: Columns {
             dir: Some(1),
+            attributes: 0,
             ext: false,
             ..BY_EXTENSION
         },

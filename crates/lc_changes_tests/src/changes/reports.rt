@@ -7,7 +7,7 @@ use lc_changes::{ChangeOptions, ChangeSheet, ShownChanges};
 use lc_level::FileAttributes;
 use lc_rows::name_of;
 use lc_rules::TextState;
-use lc_sheet::{Columns, Format, Lines, Section, Value};
+use lc_sheet::{Columns, Format, Lines, Section, Value, flag_word};
 use lc_text::push_name;
 use lc_walk::{FileLine, Findings, Report, ReportLists, Tally, extension};
 use std::alloc::{AllocError, Global};
@@ -82,6 +82,13 @@ pub(super) fn report(alloc: Global, files: &[File]) -> Result<Report, AllocError
     for file in files {
         lines.push(file_line(alloc, file)?)?;
     }
+    report_of(alloc, lines)
+}
+
+/// Makes a report that lists these files.
+pub(super) fn report_of(alloc: Global, lines: Vec<FileLine>) -> Result<Report, AllocError>
+    ensures { IfOk result (λ report. report.lists.files ≡ true) }
+{
     let tally = tally_of(alloc, &lines)?;
     let lists = ReportLists {
         files: true,
@@ -103,6 +110,7 @@ fn push_value(text: &mut Vec<u8>, value: Value<'_>) -> Result<(), AllocError> {
         Value::Summed => text.extend_from_slice(b"*"),
         Value::Blank => text.extend_from_slice(b"!"),
         Value::Word(word) => text.extend_from_slice(word.as_bytes()),
+        Value::Flag(is_set) => text.extend_from_slice(flag_word(is_set).as_bytes()),
         Value::Name(name) => push_name(text, name),
         Value::Path(path) => text.extend_from_slice(path),
         Value::Number(number) => write!(text, "{number}").map_err(|_| AllocError),
@@ -151,7 +159,7 @@ pub(super) fn compared(
 ) -> Result<(Vec<u8>, bool), AllocError> {
     let old = report(alloc, old)?;
     let new = report(alloc, new)?;
-    let changes = ShownChanges::of(alloc, &old, &new, options)?;
+    let changes = ShownChanges::of(alloc, &old, &new, options, &[])?;
     let text = text_of(alloc, &changes)?;
     Ok((text, changes.some_differ()))
 }

@@ -81,6 +81,7 @@ total * * * 5 5 30 37 5 5 269 321
 fn rows_of_directories(rt: HostRuntime) -> Result<(), Fail> {
     let by = Columns {
         dir: Some(1),
+        attributes: 0,
         ext: false,
         ..BY_EXTENSION
     };
