@@ -5,8 +5,8 @@ use Rattle.std.specs.{Prelude.Vec, Global.Global, Str.is_utf8}
 use Rattle.json.specs.{Json.{Json, null, string, if_last, max_depth, value}, Lex.tokens, Print.print, Token.Token, Tree.json_tokens}
 use Rattle.json.specs.Tree.{depth, items_depth, members_depth}
 use Rattle.json.proofs.Printed.Trees.{value-json_tokens}
-use Rattle.lc_sheet.specs.{ColumnWords.column_name, Sheets.{SectionModel, SheetModel}, Values.{ValueModel, missing, summed, blank, word}}
-use Rattle.lc_sheet.specs.{Values.{name, path, number, share, bar, difference}, declared.column.Column.Column}
+use Rattle.lc_sheet.specs.{ColumnWords.column_word, Sheets.{SectionModel, SheetModel}, Values.{ValueModel, missing, summed, blank, word}}
+use Rattle.lc_sheet.specs.{Values.{flag, name, path, number, share, bar, difference}, declared.column.Column.Column}
 use Rattle.lc_text.specs.Names.{named}
 use Rattle.lc_formats.specs.JsonLines.{change_object, column_in, lacks, line_members, line_object, members_in, object_of, part_members}
 use Rattle.lc_formats.specs.{JsonLines.{side_value, value_members}, JsonSheets.{json_of, line_at, list_member, list_members, number_member}}
@@ -35,80 +35,87 @@ bytes_within n bytes =
     let inner = items_within integer 0 (λ k. omega arith) bytes in
     chosen_within (is_utf8 bytes) (n, string bytes) (bytes_name n, array_with (map integer bytes)) (omega arith) (omega arith)
 
-value_within : (c : Column) (v : ValueModel) → members_depth (members_with (value_members c v)) ≤ 1
-value_within c missing = omega arith
-value_within c summed = omega arith
-value_within c blank = omega arith
-value_within c (word w) = omega arith
-value_within c (name n) = let bytes = bytes_within (column_name c) (named (λ b. b) n) in omega arith
-value_within c (path p) = let bytes = bytes_within (column_name c) p in omega arith
-value_within c (number n) = omega arith
-value_within c (share part whole) = omega arith
-value_within c (bar part whole) = omega arith
-value_within c (difference old new) = omega arith
-
-line_within : (columns : List Column) (values : List ValueModel) → members_depth (members_with (line_members columns values)) ≤ 1
-line_within [] vs = omega arith
-line_within (c ∷ cs) [] = omega arith
-line_within (c ∷ cs) (v ∷ vs) = both_within 1 (value_members c v) (line_members cs vs) (value_within c v) (line_within cs vs)
-
-line_object_within : (columns : List Column) (values : List ValueModel) → depth (line_object columns values) ≤ 2
-line_object_within columns values = let members = line_within columns values in omega arith
-
--- ---- lines of two reports
-
-member_within : (c : Option Column) (v : ValueModel) → members_depth (members_with (members_in c v)) ≤ 1
-member_within None v = omega arith
-member_within (Some c) v = value_within c v
-
-part_within : (p : Part) (columns : List Column) (values : List ValueModel)
-    → members_depth (members_with (part_members p columns values)) ≤ 1
-part_within p [] vs = omega arith
-part_within p (c ∷ cs) [] = omega arith
-part_within p (c ∷ cs) (v ∷ vs) =
-    both_within 1 (members_in (column_in p c) v) (part_members p cs vs) (member_within (column_in p c) v) (part_within p cs vs)
+value_within : (m : List ℕ) (v : ValueModel) → members_depth (members_with (value_members m v)) ≤ 1
+value_within m missing = omega arith
+value_within m summed = omega arith
+value_within m blank = omega arith
+value_within m (word w) = omega arith
+value_within m (flag is_set) = omega arith
+value_within m (name n) = let bytes = bytes_within m (named (λ b. b) n) in omega arith
+value_within m (path p) = let bytes = bytes_within m p in omega arith
+value_within m (number n) = omega arith
+value_within m (share part whole) = omega arith
+value_within m (bar part whole) = omega arith
+value_within m (difference old new) = omega arith
 
 null_or_within : (b : Bool) (ms : List Member) → members_depth (members_with ms) ≤ 1 → depth (if b then null else object_with ms) ≤ 2
 null_or_within true ms within = omega arith
 null_or_within false ms within = omega arith
 
-side_within : (p : Part) (columns : List Column) (values : List ValueModel) → depth (side_value p columns values) ≤ 2
-side_within p columns values =
-    null_or_within (lacks p columns values) (part_members p columns values) (part_within p columns values)
-
 sides_within : (a b : Json) → depth a ≤ 2 → depth b ≤ 2 → members_depth (members_with ((codes "old", a) ∷ (codes "new", b) ∷ [])) ≤ 2
 sides_within a b x y = omega arith
 
-change_within : (columns : List Column) (values : List ValueModel) → depth (change_object columns values) ≤ 3
-change_within columns values =
-    let old = side_value Old columns values in
-    let new = side_value New columns values in
-    let own = part_within Own columns values in
-    let sides = sides_within old new (side_within Old columns values) (side_within New columns values) in
-    let all = both_within 2 (part_members Own columns values) ((codes "old", old) ∷ (codes "new", new) ∷ []) (omega arith) sides in
-    omega arith
+-- the columns of attributes have these names
+module _ (names : List (List ℕ)) where
+  line_within : (columns : List Column) (values : List ValueModel) → members_depth (members_with (line_members names columns values)) ≤ 1
+  line_within [] vs = omega arith
+  line_within (c ∷ cs) [] = omega arith
+  line_within (c ∷ cs) (v ∷ vs) =
+      let own = column_word names c in
+      both_within 1 (value_members own v) (line_members names cs vs) (value_within own v) (line_within cs vs)
 
-object_within : (compares : Bool) (columns : List Column) (values : List ValueModel) → depth (object_of compares columns values) ≤ 3
-object_within true columns values = change_within columns values
-object_within false columns values = let one = line_object_within columns values in omega arith
+  line_object_within : (columns : List Column) (values : List ValueModel) → depth (line_object names columns values) ≤ 2
+  line_object_within columns values = let members = line_within columns values in omega arith
+
+  -- ---- lines of two reports
+
+  member_within : (c : Option Column) (v : ValueModel) → members_depth (members_with (members_in names c v)) ≤ 1
+  member_within None v = omega arith
+  member_within (Some c) v = value_within (column_word names c) v
+
+  part_within : (p : Part) (columns : List Column) (values : List ValueModel)
+      → members_depth (members_with (part_members names p columns values)) ≤ 1
+  part_within p [] vs = omega arith
+  part_within p (c ∷ cs) [] = omega arith
+  part_within p (c ∷ cs) (v ∷ vs) =
+      both_within 1 (members_in names (column_in p c) v) (part_members names p cs vs) (member_within (column_in p c) v)
+      (part_within p cs vs)
+
+  side_within : (p : Part) (columns : List Column) (values : List ValueModel) → depth (side_value names p columns values) ≤ 2
+  side_within p columns values =
+      null_or_within (lacks p columns values) (part_members names p columns values) (part_within p columns values)
+
+  change_within : (columns : List Column) (values : List ValueModel) → depth (change_object names columns values) ≤ 3
+  change_within columns values =
+      let old = side_value names Old columns values in
+      let new = side_value names New columns values in
+      let own = part_within Own columns values in
+      let sides = sides_within old new (side_within Old columns values) (side_within New columns values) in
+      let all = both_within 2 (part_members names Own columns values) ((codes "old", old) ∷ (codes "new", new) ∷ []) (omega arith) sides in
+      omega arith
+
+  object_within : (compares : Bool) (columns : List Column) (values : List ValueModel) → depth (object_of compares names columns values) ≤ 3
+  object_within true columns values = change_within columns values
+  object_within false columns values = let one = line_object_within columns values in omega arith
 
 -- ---- sections
 
 list_within : (compares : Bool) (n : List ℕ) (s : SectionModel) → depth (list_member compares n s).1 ≤ 4
 list_within compares n s =
-    let each = items_within (object_of compares s.columns) 3 (object_within compares s.columns) s.lines in omega arith
+    let own = object_within s.attributes compares s.columns in
+    let each = items_within (object_of compares s.attributes s.columns) 3 own s.lines in omega arith
 
 some_within : (compares : Bool) (n : List ℕ) (s : Option SectionModel) → members_depth (members_with (some_list compares n s)) ≤ 4
 some_within compares n None = omega arith
 some_within compares n (Some s) = let own = list_within compares n s in omega arith
 
-line_if_within : (compares : Bool) (n : List ℕ) (columns : List Column) (line : Option (List ValueModel))
-    → members_depth (members_with (object_members compares n columns line)) ≤ 4
-line_if_within compares n columns None = omega arith
-line_if_within compares n columns (Some values) = let own = object_within compares columns values in omega arith
+line_if_within : (compares : Bool) (n : List ℕ) (names : List (List ℕ)) (columns : List Column) (line : Option (List ValueModel))
+    → members_depth (members_with (object_members compares n names columns line)) ≤ 4
+line_if_within compares n names columns None = omega arith
+line_if_within compares n names columns (Some values) = let own = object_within names compares columns values in omega arith
 
 line_at_within : (compares : Bool) (n : List ℕ) (i : ℕ) (s : SectionModel) → members_depth (members_with (line_at compares n i s)) ≤ 4
-line_at_within compares n i s = line_if_within compares n s.columns (slice_get s.lines i)
+line_at_within compares n i s = line_if_within compares n s.attributes s.columns (slice_get s.lines i)
 
 totals_within : (compares : Bool) (s : SectionModel) → members_depth (members_with (totals_members compares s)) ≤ 4
 totals_within compares s =

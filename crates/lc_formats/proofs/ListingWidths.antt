@@ -1,14 +1,14 @@
 -- How wide the lines of what is listed are.
-use Rattle.std.proofs.{Common.{◌≡◌, ℕ, true, List, [], ◌∷◌, ◌++◌, map, refl, sym, ap₂, append-nil, subst}, lemmas.List.Elements.All-cons}
-use Rattle.std.proofs.lemmas.List.Elements.{All-head, All-map, All-nil, All-tail, All-weaker}
+use Rattle.std.proofs.{Common.{◌≡◌, ℕ, true, List, [], ◌∷◌, ◌++◌, map, codes, refl, sym, ap₂, append-nil, subst}}
+use Rattle.std.proofs.lemmas.List.Elements.{All-cons, All-head, All-map, All-nil, All-tail, All-weaker}
 use Rattle.std.specs.List.{All}
-use Rattle.lc_sheet.specs.{ColumnWords.{heading, side_of}, Sheets.SectionModel, Values.ValueModel, declared.column.Column.Column}
+use Rattle.lc_sheet.specs.{ColumnWords.side_of, Sheets.SectionModel, Values.ValueModel, declared.column.Column.Column}
 use Rattle.lc_sheet.specs.declared.column.Side.{Side, TheVariants.{Left, Right, End}}
-use Rattle.lc_formats.specs.{Cells.{heading_cells, line_cells, section_cells, shown_text}, Layouts.is_open, Readable.AreReadable}
-use Rattle.lc_formats.specs.{Readable.IsListed, TableText.section_listing, WidthLaws.{HasEnd, HasEnds, IsAlignedListing, ListingWidthLaw}}
-use Rattle.lc_formats.specs.WidthLaws.{last_heading, last_text}
+use Rattle.lc_formats.specs.{Cells.{heading_cells, heading_value, line_cells, section_cells, shown_text}, Layouts.is_open}
+use Rattle.lc_formats.specs.{Readable.{AreReadable, IsListed}, TableText.section_listing, WidthLaws.{HasEnd, HasEnds, IsAlignedListing}}
+use Rattle.lc_formats.specs.WidthLaws.{ListingWidthLaw, last_heading, last_text}
 use Rattle.lc_formats.proofs.{EvenLines.{end_at, end_of}, EvenParts.{IsClean, IsLike, listing_aligned, listing_clean}}
-use Rattle.lc_formats.proofs.SoundValues.{like_headings, like_line}
+use Rattle.lc_formats.proofs.SoundValues.{like_headings, like_line, shown_clear}
 use Rattle.lc_sheet.specs.declared.column.Column.TheVariants as column
 use Rattle.lc_sheet.specs.declared.column.Compared.TheVariants as compared
 
@@ -24,12 +24,13 @@ end_before Left u ss t e = (refl, e)
 end_before Right u ss t e = (refl, e)
 end_before End u ss t e = absurd (cc)
 
-end_headings : (columns : List Column) → is_open (map side_of columns) ≡ true → end_of (heading_cells columns) ≡ last_heading columns
-end_headings [] e = refl
-end_headings (c ∷ []) e = end_last (side_of c) (heading c) e
-end_headings (c ∷ d ∷ ds) e =
-    let own = end_before (side_of c) (side_of d) (map side_of ds) (heading c) e in
-    ap₂ (λ (x y : List ℕ). x ++ y) own.0 (end_headings (d ∷ ds) own.1)
+end_headings : (names : List (List ℕ)) (columns : List Column) → is_open (map side_of columns) ≡ true
+    → end_of (heading_cells names columns) ≡ last_heading names columns
+end_headings names [] e = refl
+end_headings names (c ∷ []) e = end_last (side_of c) (shown_text (heading_value names c)) e
+end_headings names (c ∷ d ∷ ds) e =
+    let own = end_before (side_of c) (side_of d) (map side_of ds) (shown_text (heading_value names c)) e in
+    ap₂ (λ (x y : List ℕ). x ++ y) own.0 (end_headings names (d ∷ ds) own.1)
 
 end_values : (columns : List Column) (values : List ValueModel) → is_open (map side_of columns) ≡ true → AreReadable columns values
     → end_of (line_cells columns values) ≡ last_text values
@@ -51,37 +52,41 @@ last_texts columns (l ∷ ls) e own =
     ap₂ (λ (x : List ℕ) (xs : List (List ℕ)). x ∷ xs) (end_values columns l e (All-head (AreReadable columns) l ls own))
     (last_texts columns ls e (All-tail (AreReadable columns) l ls own))
 
-like_section : (s : SectionModel) → IsListed s → All (IsLike (map side_of s.columns)) (heading_cells s.columns ∷ section_cells s)
+like_section : (s : SectionModel) → IsListed s
+    → All (IsLike (map side_of s.columns)) (heading_cells s.attributes s.columns ∷ section_cells s)
 like_section s is =
     let L = IsLike (map side_of s.columns) in
-    All-cons L (heading_cells s.columns) (section_cells s) (like_headings s.columns)
+    All-cons L (heading_cells s.attributes s.columns) (section_cells s) (like_headings s.attributes s.columns is.names)
     (All-map L (line_cells s.columns) s.lines
     (All-weaker (AreReadable s.columns) (λ l. L (line_cells s.columns l)) (like_line s.columns) s.lines is.readable))
 
 -- the lines of a section
 pub listing_law : ListingWidthLaw
 listing_law s is =
-    subst (λ (end : List ℕ). IsAlignedListing end (map last_text s.lines) (section_listing s)) (end_headings s.columns is.opened)
-    (subst (λ (ends : List (List ℕ)). IsAlignedListing (end_of (heading_cells s.columns)) ends (section_listing s))
+    subst (λ (end : List ℕ). IsAlignedListing end (map last_text s.lines) (section_listing s))
+    (end_headings s.attributes s.columns is.opened)
+    (subst (λ (ends : List (List ℕ)). IsAlignedListing (end_of (heading_cells s.attributes s.columns)) ends (section_listing s))
     (last_texts s.columns s.lines is.opened is.readable)
-    (listing_aligned (map side_of s.columns) (heading_cells s.columns) (section_cells s) is.opened (like_section s is)))
+    (listing_aligned (map side_of s.columns) (heading_cells s.attributes s.columns) (section_cells s) is.opened (like_section s is)))
 
 -- ---- and their ends
 
-heading_end : (c : Column) → is_open (side_of c ∷ []) ≡ true → HasEnd (heading c)
-heading_end column.Path e = ((λ e. absurd (cc)), refl)
-heading_end column.Entry e = ((λ e. absurd (cc)), refl)
-heading_end column.Site e = ((λ e. absurd (cc)), refl)
-heading_end (column.Old (compared.Key k)) e = absurd (cc)
-heading_end (column.Old (compared.Number n)) e = absurd (cc)
-heading_end (column.New (compared.Key k)) e = absurd (cc)
-heading_end (column.New (compared.Number n)) e = absurd (cc)
-heading_end other e = absurd (cc)
+heading_end : (names : List (List ℕ)) (c : Column) → is_open (side_of c ∷ []) ≡ true → HasEnd (shown_text (heading_value names c))
+heading_end names column.Path e = subst HasEnd (sym (shown_clear (codes "file") refl refl)) ((λ e. absurd (cc)), refl)
+heading_end names column.Entry e = subst HasEnd (sym (shown_clear (codes "path") refl refl)) ((λ e. absurd (cc)), refl)
+heading_end names column.Site e = subst HasEnd (sym (shown_clear (codes "path") refl refl)) ((λ e. absurd (cc)), refl)
+heading_end names (column.Old (compared.Key k)) e = absurd (cc)
+heading_end names (column.Old (compared.Number n)) e = absurd (cc)
+heading_end names (column.New (compared.Key k)) e = absurd (cc)
+heading_end names (column.New (compared.Number n)) e = absurd (cc)
+heading_end names other e = absurd (cc)
 
-last_heading_end : (columns : List Column) → is_open (map side_of columns) ≡ true → HasEnd (last_heading columns)
-last_heading_end [] e = absurd (cc)
-last_heading_end (c ∷ []) e = heading_end c e
-last_heading_end (c ∷ d ∷ ds) e = last_heading_end (d ∷ ds) (end_before (side_of c) (side_of d) (map side_of ds) [] e).1
+last_heading_end : (names : List (List ℕ)) (columns : List Column) → is_open (map side_of columns) ≡ true
+    → HasEnd (last_heading names columns)
+last_heading_end names [] e = absurd (cc)
+last_heading_end names (c ∷ []) e = heading_end names c e
+last_heading_end names (c ∷ d ∷ ds) e =
+    last_heading_end names (d ∷ ds) (end_before (side_of c) (side_of d) (map side_of ds) [] e).1
 
 open_ends : (columns : List Column) (lines : List (List ValueModel)) → is_open (map side_of columns) ≡ true
     → All (AreReadable columns) lines → All (λ line. HasEnd (last_text line)) lines
@@ -97,7 +102,7 @@ open_ends columns (l ∷ ls) e own has =
 pub section_clean : (s : SectionModel) → HasEnds s → IsClean (section_listing s)
 section_clean s has =
     let is = has.0 in
-    listing_clean (map side_of s.columns) (heading_cells s.columns) (section_cells s) is.opened (like_section s is)
-    (All-cons (λ cells. HasEnd (end_of cells)) (heading_cells s.columns) (section_cells s)
-    (subst HasEnd (sym (end_headings s.columns is.opened)) (last_heading_end s.columns is.opened))
+    listing_clean (map side_of s.columns) (heading_cells s.attributes s.columns) (section_cells s) is.opened (like_section s is)
+    (All-cons (λ cells. HasEnd (end_of cells)) (heading_cells s.attributes s.columns) (section_cells s)
+    (subst HasEnd (sym (end_headings s.attributes s.columns is.opened)) (last_heading_end s.attributes s.columns is.opened))
     (open_ends s.columns s.lines is.opened is.readable has.1))

@@ -123,7 +123,8 @@ bytes_of : (c : ℕ) → scalar c ≡ true → list_all (λ b. nat_lt b 256) (en
 unfolding encode
 bytes_of c is = elim (scalar_cases c is) [ inl low ↦ grind (arith, nat_tests) | inr high ↦ grind (arith, nat_tests) ]
 
-small_bytes : (bs : List ℕ) → list_all (λ b. nat_lt b 256) bs ≡ true → All (λ b. b < 256) bs
+-- bytes by a test
+pub small_bytes : (bs : List ℕ) → list_all (λ b. nat_lt b 256) bs ≡ true → All (λ b. b < 256) bs
 small_bytes [] e = All-nil (λ b. b < 256)
 small_bytes (b ∷ bs) e =
     let parts = and_parts _ _ e in

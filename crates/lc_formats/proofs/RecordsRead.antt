@@ -4,8 +4,8 @@ use Rattle.std.specs.List.{All, flat_map}
 use Rattle.csv.proofs.RoundTrip.{read-write}
 use Rattle.csv.specs.{Machine.next_record, Reading.{AreRecords, Reached, default_config}, Writing.read_back}
 use Rattle.csv.specs.declared.parser.State.TheVariants.{StartRecord}
-use Rattle.lc_sheet.specs.{ColumnWords.column_name, Sheets.SectionModel, Values.ValueModel}
-use Rattle.lc_formats.specs.{Csv.{csv_section, field_of, records_of}, CsvLaws.{HasColumns, RecordsLaw}, CsvText.record_text}
+use Rattle.lc_sheet.specs.{Sheets.SectionModel, Values.ValueModel}
+use Rattle.lc_formats.specs.{Csv.{csv_section, field_of, header_field, records_of}, CsvLaws.{HasColumns, RecordsLaw}, CsvText.record_text}
 
 -- a record that has a field reads back as it is
 whole : {X : Type 0} (field : X → List ℕ) (xs : List X) → 0 < length xs → read_back (map field xs) ≡ map field xs
@@ -30,14 +30,14 @@ section_read : (s : SectionModel) → HasColumns s
     → AreRecords default_config StartRecord (flat_map record_text (records_of s)) (records_of s)
 unfolding Reached next_record
 section_read s has =
-    let names = map column_name s.columns in
+    let names = map (header_field s.attributes) s.columns in
     let rest = flat_map record_text (map (map field_of) s.lines) in (
       StartRecord,
       [],
       (
         (read_back names, StartRecord, rest),
         read-write names rest,
-        sym (whole column_name s.columns has.some),
+        sym (whole (header_field s.attributes) s.columns has.some),
         reached (length s.columns) has.some s.lines has.each,
       ),
       refl,

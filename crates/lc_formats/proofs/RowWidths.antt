@@ -1,20 +1,26 @@
 -- How wide the lines of rows, of their sums and of the last numbers are.
 use Rattle.std.proofs.Common.{◌≡◌, ℕ, Bool, true, false, if◌then◌else◌, List, [], ◌∷◌, ◌++◌, length, map, codes, replicate, Option, Some}
-use Rattle.std.proofs.{Common.{None, refl, sym, ap, ◌∙◌, subst, arith}, lemmas.List.Elements.{All-append, All-cons, All-head, All-nil}}
-use Rattle.std.proofs.lemmas.List.Elements.{All-tail, All-take}
+use Rattle.std.proofs.{Common.{None, append-nil, refl, sym, ap, ◌∙◌, subst, arith}, lemmas.List.Elements.{All-append, All-cons, All-head}}
+use Rattle.std.proofs.lemmas.List.Elements.{All-nil, All-tail, All-take}
 use Rattle.std.specs.List.{All}
-use Rattle.lc_sheet.specs.{ColumnWords.{heading, side_of}, Sheets.{SectionModel, SheetModel}, Values.{ValueModel, missing, summed, blank}}
-use Rattle.lc_sheet.specs.{Values.{word, name, path, number, share, bar, difference}, declared.column.Column.Column}
-use Rattle.lc_sheet.specs.declared.column.Side.{Side, TheVariants.{Left, Right, End}}
-use Rattle.lc_formats.specs.{Blanks.ends_in_blank, Cells.{cell_of, heading_cells, line_cells, section_cells, shown_text}, Columns.CellModel}
-use Rattle.lc_formats.specs.{Columns.{before_shown, has_text, is_shown, shown_cells, widths_of}, Layouts.has_no_end}
-use Rattle.lc_formats.specs.{PaddedText.{padded_counts, padded_rows, padded_summary}, Readable.{AreReadable, AreRows, EndsInNumbers}}
-use Rattle.lc_formats.specs.{Readable.{IsNumeral, IsTabular}, Shares.rounded_parts, TableText.{count_cells, count_lines, counts_of}}
+use Rattle.lc_text.specs.{Names.named, Visible.visible_bytes}
+use Rattle.lc_sheet.specs.{AttributeColumns.{heading_of, name_at}, ColumnWords.{heading, plain_name, side_of}}
+use Rattle.lc_sheet.specs.Values.{ValueModel, missing, summed, blank, word, flag, name, path, number, share, bar, difference}
+use Rattle.lc_sheet.specs.{Sheets.{SectionModel, SheetModel}, declared.column.{Column.Column, Side.{Side, TheVariants.{Left, Right, End}}}}
+use Rattle.lc_formats.specs.{Blanks.ends_in_blank, Cells.{cell_of, heading_cells, heading_value, line_cells, section_cells}}
+use Rattle.lc_formats.specs.{Cells.shown_text, Columns.{CellModel, before_shown, has_text, is_shown, shown_cells, widths_of}}
+use Rattle.lc_formats.specs.{Layouts.has_no_end, PaddedText.{padded_counts, padded_rows, padded_summary}, Readable.{AreReadable, AreRows}}
+use Rattle.lc_formats.specs.{Readable.{EndsInNumbers, IsNumeral, IsTabular}, Shares.rounded_parts}
+use Rattle.lc_formats.specs.TableText.{count_cells, count_lines, counts_of}
 use Rattle.lc_formats.specs.TableText.{entries_line, row_lines, rows_in_columns, shown_lines, shown_totals, summary, summary_widths}
 use Rattle.lc_formats.specs.WidthLaws.{CountsWidthLaw, SummaryWidthLaw}
 use Rattle.lc_formats.proofs.{BlankEnds.{ends_bar, ends_change, ends_number, ends_share, shown_number}, EvenLines.{Fit, IsSound, span}}
 use Rattle.lc_formats.proofs.EvenParts.{IsEven, IsRow, are_even, even-append, even_line, even_lines, even_rule, rows_fit, shown}
-use Rattle.lc_formats.proofs.{PrintedLines.EndsBare, SoundValues.{like_headings, like_line, sound_ascii, sound_value}}
+use Rattle.lc_formats.proofs.{PrintedLines.EndsBare, SoundValues.{like_headings, like_line, named_at, shown_clear, sound_ascii}}
+use Rattle.lc_formats.proofs.SoundValues.{sound_value, visible_clear}
+use Rattle.lc_sheet.specs.declared.column.Column.TheVariants as column
+use Rattle.lc_sheet.specs.declared.column.Compared.TheVariants as compared
+use Rattle.lc_sheet.specs.declared.key.Key.TheVariants as key
 
 -- ---- the ends of the lines
 
@@ -51,6 +57,7 @@ bare_numeral missing is = absurd is
 bare_numeral summed is = refl
 bare_numeral blank is = refl
 bare_numeral (word w) is = absurd is
+bare_numeral (flag is_set) is = absurd is
 bare_numeral (name n) is = absurd is
 bare_numeral (path p) is = absurd is
 bare_numeral (number n) is = ends_number n
@@ -96,12 +103,28 @@ bare_line columns values own ends =
     subst (λ (vs : List ValueModel). EndsBare (line_cells columns vs)) (sym is)
     (bare_parted columns ends.0 ends.2 ends.1 (subst (AreReadable columns) is own) ends.4)
 
-heading_bare : (c : Column) → ends_in_blank (heading c) ≡ false
-heading_bare c = grind arith
+-- names whose headings end in no blank
+abbrev BareNames : List (List ℕ) → Type 0
+BareNames names = All (λ n. ends_in_blank (visible_bytes (heading_of n)) ≡ false) names
 
-bare_headings : (columns : List Column) → AreBare (heading_cells columns)
-bare_headings [] = tt
-bare_headings (c ∷ cs) = (heading_bare c, bare_headings cs)
+bare_attribute : (names : List (List ℕ)) → BareNames names → (place : ℕ)
+    → ends_in_blank (named visible_bytes (plain_name (heading_of (name_at names place)))) ≡ false
+bare_attribute names bare place =
+    let shown = visible_bytes (heading_of (name_at names place)) in
+    ap ends_in_blank {y = shown} (append-nil (shown ++ []) ∙ append-nil shown)
+    ∙ named_at (λ n. ends_in_blank (visible_bytes (heading_of n)) ≡ false) (ap ends_in_blank (visible_clear [] refl refl)) names bare
+    place
+
+heading_bare : (names : List (List ℕ)) → BareNames names → (c : Column) → ends_in_blank (shown_text (heading_value names c)) ≡ false
+heading_bare names bare (column.Key (key.Attribute place)) = bare_attribute names bare place
+heading_bare names bare (column.Old (compared.Key (key.Attribute place))) = bare_attribute names bare place
+heading_bare names bare (column.New (compared.Key (key.Attribute place))) = bare_attribute names bare place
+heading_bare names bare other =
+    ap ends_in_blank (shown_clear (heading names other) (grind arith) (grind arith)) ∙ grind arith
+
+bare_headings : (names : List (List ℕ)) → BareNames names → (columns : List Column) → AreBare (heading_cells names columns)
+bare_headings names bare [] = tt
+bare_headings names bare (c ∷ cs) = (heading_bare names bare c, bare_headings names bare cs)
 
 -- ---- lines that are alike, some with a rule between
 
@@ -168,21 +191,25 @@ summary_span s = span (map side_of s.rows.columns) (summary_widths s.rows s.othe
 
 abbrev pub summary_lines : SheetModel → List (List ℕ)
 summary_lines s =
-    even_rows_lines (map side_of s.rows.columns) (summary_widths s.rows s.others (shown_totals s)) (heading_cells s.rows.columns)
+    even_rows_lines (map side_of s.rows.columns) (summary_widths s.rows s.others (shown_totals s))
+    (heading_cells s.rows.attributes s.rows.columns)
     (row_lines s.rows s.others) (section_cells (shown_totals s))
 
 pub even_summary : (s : SheetModel) → IsTabular s → IsEven (summary_span s) (summary_lines s) (padded_summary s) (summary s)
 even_summary s is =
     let columns = s.rows.columns in
     let R = IsRow (map side_of columns) in
-    let headings = heading_cells columns in
+    let headings = heading_cells s.rows.attributes columns in
     let rows = row_lines s.rows s.others in
     let sums = section_cells (shown_totals s) in
     let seen = All-append R (section_cells s.rows) (section_cells s.others) (rows_of_section columns s.rows is.rows)
     (rows_of_section columns s.others is.others) in
     let all = All-append R rows sums seen
     (rows_of_section columns (shown_totals s) (rows_shown s.some_binary columns s.totals is.totals)) in
-    let are = All-cons R headings (rows ++ sums) (like_headings columns, bare_ends headings (bare_headings columns)) all in
+    let are = All-cons R headings (rows ++ sums) (
+      like_headings s.rows.attributes columns is.names,
+      bare_ends headings (bare_headings s.rows.attributes is.bare columns),
+    ) all in
     let fits = rows_fit (map side_of columns) headings (rows ++ sums) are in
     rows_even (map side_of columns) headings rows sums (summary_widths s.rows s.others (shown_totals s)) is.closed fits.0 fits.1 are
 

@@ -7,20 +7,22 @@ use Rattle.lc_formats.specs.{JsonTokens.members_tokens_of, declared.json_sides.P
 use Rattle.lc_formats.proofs.Tokens.{both_members, object_appended}
 
 -- one column more of a part
-pub part_step : (text next all : List Token) (p : Part) (c : Column) (cs rest : List Column) (value : Column → ValueModel) → rest ≡ c ∷ cs
-    → text ++ members_tokens_of (part_members p rest (map value rest)) ≡ all
-    → next ≡ text ++ members_tokens_of (members_in (column_in p c) (value c))
-    → next ++ members_tokens_of (part_members p cs (map value cs)) ≡ all
-part_step text next all p c cs rest value is so_far more =
-    ap (λ (ts : List Token). ts ++ members_tokens_of (part_members p cs (map value cs))) more
-    ∙ both_members text (members_in (column_in p c) (value c)) (part_members p cs (map value cs))
-    ∙ ap (λ (r : List Column). text ++ members_tokens_of (part_members p r (map value r))) (sym is) ∙ so_far
+pub part_step : (text next all : List Token) (names : List (List ℕ)) (p : Part) (c : Column) (cs rest : List Column)
+    (value : Column → ValueModel) → rest ≡ c ∷ cs
+    → text ++ members_tokens_of (part_members names p rest (map value rest)) ≡ all
+    → next ≡ text ++ members_tokens_of (members_in names (column_in p c) (value c))
+    → next ++ members_tokens_of (part_members names p cs (map value cs)) ≡ all
+part_step text next all names p c cs rest value is so_far more =
+    ap (λ (ts : List Token). ts ++ members_tokens_of (part_members names p cs (map value cs))) more
+    ∙ both_members text (members_in names (column_in p c) (value c)) (part_members names p cs (map value cs))
+    ∙ ap (λ (r : List Column). text ++ members_tokens_of (part_members names p r (map value r))) (sym is) ∙ so_far
 
 -- a side that its report has
-pub side_there : (b : Bool) (p : Part) (columns : List Column) (values : List ValueModel) → b ≡ lacks p columns values → b ≡ false
-    → object_with (part_members p columns values) ≡ side_value p columns values
-side_there b p columns values is none =
-    ap (λ x. if x then null else object_with (part_members p columns values)) (sym none ∙ is)
+pub side_there : (b : Bool) (names : List (List ℕ)) (p : Part) (columns : List Column) (values : List ValueModel)
+    → b ≡ lacks p columns values → b ≡ false
+    → object_with (part_members names p columns values) ≡ side_value names p columns values
+side_there b names p columns values is none =
+    ap (λ x. if x then null else object_with (part_members names p columns values)) (sym none ∙ is)
 
 two_members : (text : List Token) (n m : List ℕ) (a b : Json)
     → (((text ++ key n ∷ []) ++ json_tokens a) ++ key m ∷ []) ++ json_tokens b ≡ text ++ members_tokens_of ((n, a) ∷ (m, b) ∷ [])

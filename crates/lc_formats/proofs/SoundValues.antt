@@ -1,18 +1,26 @@
 -- The texts of values are in one line, and UTF-8.
 use Rattle.std.proofs.Common.{◌≡◌, ℕ, ◌/◌, ◌%◌, nat_lt, Bool, true, false, if◌then◌else◌, List, [], ◌∷◌, ◌++◌, map, codes, decimal}
-use Rattle.std.proofs.{Common.{encode_utf8, Option, Some, None, refl, ap, arith}, lemmas.Bool.Decides.nat_tests}
+use Rattle.std.proofs.{Common.{encode_utf8, Option, Some, None, unwrap_or, inl, inr, append-nil, refl, sym, ap, ◌∙◌, subst, arith}}
+use Rattle.std.proofs.lemmas.{Bool.Decides.nat_tests, List.Elements.{All-get_or, All-nil}, Option.{slice_get_cases, unwrap_or-slice_get}}
 use Rattle.std.proofs.lemmas.Str.{IsUtf8-append, IsUtf8-encode}
-use Rattle.std.specs.{Int.abs_diff, Str.IsUtf8}
+use Rattle.std.specs.{Int.abs_diff, List.{All, list_all}, Str.IsUtf8}
 use lib.Utf8.{low_scalar}
 use Rattle.json.proofs.Printed.Utf8.{are_ascii, IsUtf8-are_ascii}
-use Rattle.lc_text.specs.{Names.{NameModel, line_end}, Visible.{visible_bytes, visible_path}}
-use Rattle.lc_sheet.specs.{ColumnWords.{heading, side_of}, Values.{ValueModel, missing, summed, blank, word, name, path, number, share}}
-use Rattle.lc_sheet.specs.{Values.{bar, difference}, declared.column.{Column.Column, Side.{Side, TheVariants.{Left, Right, End}}}}
+use Rattle.lc_text.specs.{Names.{NameModel, line_end}, Visible.{is_clear, visible_bytes, visible_path}}
+use Rattle.lc_text.proofs.Clear.{visible_bytes-text, visible_char-clear}
+use Rattle.lc_sheet.specs.{ColumnWords.{heading, heading_name, plain_name, side_of}, Values.{ValueModel, missing, summed, blank, word}}
+use Rattle.lc_sheet.specs.{Values.{flag, flag_word, name, path, number, share, bar, difference}, declared.column.Column.Column}
+use Rattle.lc_sheet.specs.declared.column.Side.{Side, TheVariants.{Left, Right, End}}
 use Rattle.lc_formats.specs.{CellWords.{change_word, sign, with_commas}, Cells.{heading_cells, line_cells, shown_text}}
-use Rattle.lc_formats.specs.{Readable.{AreReadable, HasBytes, IsPlain, IsReadable, is_printable}, Shares.{bar as bar_text, rounded_parts}}
-use Rattle.lc_formats.specs.Shares.{share_word}
+use Rattle.lc_formats.specs.{Readable.{AreBytes, AreNames, AreReadable, HasBytes, IsPlain, IsReadable, is_printable}}
+use Rattle.lc_formats.specs.Shares.{bar as bar_text, rounded_parts, share_word}
 use Rattle.lc_formats.proofs.{Bars.of_bar, EvenLines.IsSound, EvenParts.IsLike, OneLine.{is_no_feed, is_one_line, low_text}}
-use Rattle.lc_formats.proofs.OneLine.{one_line-append, one_line-decimal, one_line-encode, one_line-number, one_line-visible, utf8-visible}
+use Rattle.lc_formats.proofs.OneLine.{one_line-append, one_line-decimal, one_line-encode, one_line-number, one_line-visible, small_bytes}
+use Rattle.lc_formats.proofs.OneLine.{utf8-visible}
+use Rattle.lc_sheet.specs.AttributeColumns.{heading_of, name_at}
+use Rattle.lc_sheet.specs.declared.column.Column.TheVariants as column
+use Rattle.lc_sheet.specs.declared.column.Compared.TheVariants as compared
+use Rattle.lc_sheet.specs.declared.key.Key.TheVariants as key
 
 -- ---- texts at a side
 
@@ -88,12 +96,17 @@ sound_change side old new =
     sound_join side (sign old new) (with_commas (decimal (abs_diff old new))) (sound_sign side (nat_lt old new) (nat_lt new old))
     (sound_number side (abs_diff old new))
 
+sound_flag : (side : Side) (is_set : Bool) → IsSound side (flag_word is_set)
+sound_flag side true = sound_ascii side (codes "set") refl refl
+sound_flag side false = sound_ascii side (codes "unset") refl refl
+
 -- the text of a value
 pub sound_value : (side : Side) (v : ValueModel) → IsReadable side v → IsSound side (shown_text v)
 sound_value side missing own = sound_ascii side (codes "-") refl refl
 sound_value side summed own = sound_ascii side [] refl refl
 sound_value side blank own = sound_ascii side [] refl refl
 sound_value side (word w) own = sound_plain side w own
+sound_value side (flag is_set) own = sound_flag side is_set
 sound_value side (name n) own = sound_name side n own
 sound_value side (path p) own = sound_path side p own
 sound_value side (number n) own = sound_number side n
@@ -113,13 +126,39 @@ like_line (c ∷ cs) (v ∷ vs) own =
     let rest = like_line cs vs own.1 in
     (ap (λ (ss : List Side). side_of c ∷ ss) rest.0, (sound_value (side_of c) v own.0, rest.1))
 
-heading_low : (c : Column) → (is_one_line (heading c) ≡ true) × (are_ascii (heading c) ≡ true)
-heading_low c = (grind arith, grind arith)
+-- what holds of nothing and of each of some names holds of the name at a place
+pub named_at : (P : List ℕ → Type 0) → P [] → (names : List (List ℕ)) → All P names → (place : ℕ) → P (name_at names place)
+named_at P none names all place = elim (slice_get_cases names place).1 [
+  | inl found ↦ subst P (sym (unwrap_or-slice_get names place [])) (All-get_or P names place [] found.1 all)
+  | inr past ↦ subst P (sym (ap (λ (o : Option (List ℕ)). unwrap_or o []) past.1)) none
+]
 
--- and those of the headings
-pub like_headings : (columns : List Column) → IsLike (map side_of columns) (heading_cells columns)
-like_headings [] = (refl, tt)
-like_headings (c ∷ cs) =
-    let rest = like_headings cs in
-    let low = heading_low c in
-    (ap (λ (ss : List Side). side_of c ∷ ss) rest.0, (sound_ascii (side_of c) (heading c) low.0 low.1, rest.1))
+-- a text of ASCII that is shown as it is, alone and as a heading
+pub visible_clear : (t : List ℕ) → list_all is_clear t ≡ true → are_ascii t ≡ true → visible_bytes t ≡ t
+visible_clear t clear low = visible_bytes-text t (IsUtf8-are_ascii t low) ∙ visible_char-clear t clear
+
+pub shown_clear : (t : List ℕ) → list_all is_clear t ≡ true → are_ascii t ≡ true → shown_text (name (plain_name t)) ≡ t
+shown_clear t clear low = append-nil _ ∙ append-nil _ ∙ visible_clear t clear low
+
+-- headings are bytes
+heading_bytes : (names : List (List ℕ)) → AreNames names → (c : Column) → AreBytes (heading names c)
+heading_bytes names are (column.Key (key.Attribute place)) = named_at (λ n. AreBytes (heading_of n)) (All-nil _) names are place
+heading_bytes names are (column.Old (compared.Key (key.Attribute place))) =
+    named_at (λ n. AreBytes (heading_of n)) (All-nil _) names are place
+heading_bytes names are (column.New (compared.Key (key.Attribute place))) =
+    named_at (λ n. AreBytes (heading_of n)) (All-nil _) names are place
+heading_bytes names are other = small_bytes (heading names other) (grind arith)
+
+bytes_at : (side : Side) (bs : List ℕ) → AreBytes bs → HasBytes side bs
+bytes_at Left bs are = are
+bytes_at Right bs are = are
+bytes_at End bs are = tt
+
+-- the cells of the headings
+pub like_headings : (names : List (List ℕ)) (columns : List Column) → AreNames names
+    → IsLike (map side_of columns) (heading_cells names columns)
+like_headings names [] are = (refl, tt)
+like_headings names (c ∷ cs) are =
+    let rest = like_headings names cs are in
+    let own = bytes_at (side_of c) (heading names c) (heading_bytes names are c) in
+    (ap (λ (ss : List Side). side_of c ∷ ss) rest.0, (sound_name (side_of c) (heading_name names c) (refl, own, refl), rest.1))

@@ -81,7 +81,8 @@ utf8_spaces (suc n) = IsUtf8-append (32 ∷ []) (spaces n) (IsUtf8-are_ascii (32
 -- spaces after a text
 pub width_of-after : (t : List ℕ) (n : ℕ) → IsUtf8 t → width_of (t ++ spaces n) ≡ width_of t + n
 width_of-after t n is =
-    ap (str_width false) (chars-append t (spaces n) is ∙ ap (λ l. chars t ++ l) (chars-IsAscii (spaces n) (ascii_copies 32 n (omega arith))))
+    ap (str_width false) (chars-append t (spaces n) is
+    ∙ ap (λ l. chars t ++ l) (chars-IsAscii (spaces n) (ascii_copies 32 n (omega arith))))
     ∙ after_spaces (chars t) n
 
 -- nothing has no width

@@ -4,7 +4,7 @@ use Rattle.std.proofs.lemmas.{Bool.false_from_ne_true, List.Concat.flat_map-appe
 use Rattle.std.specs.{List.flat_map, Str.{IsUtf8, is_utf8}}
 use Rattle.json.specs.{Json.{Json, string}, Token.{Token, key, begin_object, end_object, end_array}, Tree.{json_tokens, items_tokens}}
 use Rattle.json.specs.Tree.{members_tokens}
-use Rattle.lc_sheet.specs.{Values.ValueModel, declared.column.Column.Column}
+use Rattle.lc_sheet.specs.{ColumnWords.column_word, Values.ValueModel, declared.column.Column.Column}
 use Rattle.lc_formats.specs.{JsonLines.{line_members, object_of, value_members}, JsonSheets.object_members, JsonText.{Member, items_with}}
 use Rattle.lc_formats.specs.{JsonText.{members_with, array_with, object_with, integer, bytes_member, bytes_name}, JsonTokens.member_tokens}
 use Rattle.lc_formats.specs.JsonTokens.{members_tokens_of}
@@ -45,12 +45,14 @@ object_appended text ms =
     ∙ ap (λ (ts : List Token). text ++ begin_object ∷ ts) (sym (object_tokens ms))
 
 -- the values of a line, column by column
-pub line_tokens : (value : Column → ValueModel) (columns : List Column)
-    → flat_map (λ c. members_tokens_of (value_members c (value c))) columns ≡ members_tokens_of (line_members columns (map value columns))
-line_tokens value [] = refl
-line_tokens value (c ∷ cs) =
-    ap (λ (ts : List Token). members_tokens_of (value_members c (value c)) ++ ts) (line_tokens value cs)
-    ∙ sym (flat_map-append member_tokens (value_members c (value c)) (line_members cs (map value cs)))
+pub line_tokens : (names : List (List ℕ)) (value : Column → ValueModel) (columns : List Column)
+    → flat_map (λ c. members_tokens_of (value_members (column_word names c) (value c))) columns
+    ≡ members_tokens_of (line_members names columns (map value columns))
+line_tokens names value [] = refl
+line_tokens names value (c ∷ cs) =
+    let own = value_members (column_word names c) (value c) in
+    ap (λ (ts : List Token). members_tokens_of own ++ ts) (line_tokens names value cs)
+    ∙ sym (flat_map-append member_tokens own (line_members names cs (map value cs)))
 
 -- bytes that are a text
 pub text_tokens : (name bytes : List ℕ) → IsUtf8 bytes → member_tokens (bytes_member name bytes) ≡ member_tokens (name, string bytes)
@@ -70,10 +72,10 @@ pub in_turn_3 : {A : Type 0} (a b c d : List A) → ((a ++ b) ++ c) ++ d ≡ a +
 in_turn_3 a b c d = simp append_assoc
 
 -- a member of an object, appended in turn
-pub object_member_appended : (compares : Bool) (text : List Token) (n : List ℕ) (columns : List Column) (values : List ValueModel)
-    → (text ++ key n ∷ []) ++ json_tokens (object_of compares columns values)
-    ≡ text ++ members_tokens_of (object_members compares n columns (Some values))
-object_member_appended compares text n columns values = simp (append_assoc, append-nil)
+pub object_member_appended : (compares : Bool) (text : List Token) (n : List ℕ) (names : List (List ℕ)) (columns : List Column)
+    (values : List ValueModel) → (text ++ key n ∷ []) ++ json_tokens (object_of compares names columns values)
+    ≡ text ++ members_tokens_of (object_members compares n names columns (Some values))
+object_member_appended compares text n names columns values = simp (append_assoc, append-nil)
 
 -- an object of a member and two lists of some, appended in turn
 pub sheet_appended : (text : List Token) (m : Member) (ms ns : List Member)

@@ -1,8 +1,8 @@
 -- The JSON values of lines of a sheet.
 use Rattle.std.specs.Prelude.{ℕ, Bool, true, false, ◌&&◌, if◌then◌else◌, List, [], ◌∷◌, ◌++◌, codes, Option, Some, None}
-use Rattle.json.specs.Json.{Json, null, string}
-use Rattle.lc_sheet.specs.{ColumnWords.{column_name, compared_column}, Values.{ValueModel, missing, summed, blank, word, name, path, number, share, bar}}
-use Rattle.lc_sheet.specs.{Values.difference, declared.column.Column.Column}
+use Rattle.json.specs.Json.{Json, null, boolean, string}
+use Rattle.lc_sheet.specs.{ColumnWords.{column_word, compared_column}, Values.{ValueModel, missing, summed, blank, word, flag, name, path}}
+use Rattle.lc_sheet.specs.{Values.{number, share, bar, difference}, declared.column.Column.Column}
 use Rattle.lc_text.specs.Names.{named}
 use Rattle.lc_formats.specs.{JsonText.{Member, bytes_member, integer, object_with}, declared.json_sides.Part.Part}
 use Rattle.lc_formats.specs.declared.json_sides.Part.TheVariants.{Own, Old, New}
@@ -10,27 +10,28 @@ use Rattle.lc_sheet.specs.declared.column.Column.TheVariants as column
 
 -- ---- a line of one report
 
--- the member of a value in a column; there is none if the line is summed over the column, or if the column does not apply to the line
-abbrev pub value_members : Column → ValueModel → List Member
-value_members c missing = (column_name c, null) ∷ []
-value_members c summed = []
-value_members c blank = []
-value_members c (word w) = (column_name c, string w) ∷ []
-value_members c (name n) = bytes_member (column_name c) (named (λ bytes. bytes) n) ∷ []
-value_members c (path p) = bytes_member (column_name c) p ∷ []
-value_members c (number n) = (column_name c, integer n) ∷ []
-value_members c (share part whole) = []
-value_members c (bar part whole) = []
-value_members c (difference old new) = []
+-- the member of a value, named by its column; there is none if the line is summed over the column, or if the column does not apply to it
+abbrev pub value_members : List ℕ → ValueModel → List Member
+value_members n missing = (n, null) ∷ []
+value_members n summed = []
+value_members n blank = []
+value_members n (word w) = (n, string w) ∷ []
+value_members n (flag is_set) = (n, boolean is_set) ∷ []
+value_members n (name value) = bytes_member n (named (λ bytes. bytes) value) ∷ []
+value_members n (path p) = bytes_member n p ∷ []
+value_members n (number k) = (n, integer k) ∷ []
+value_members n (share part whole) = []
+value_members n (bar part whole) = []
+value_members n (difference old new) = []
 
--- the members of the values of a line, one in each column
-abbrev pub line_members : List Column → List ValueModel → List Member
-line_members [] values = []
-line_members (c ∷ cs) [] = []
-line_members (c ∷ cs) (v ∷ vs) = value_members c v ++ line_members cs vs
+-- the members of the values of a line, one in each column; the columns of attributes have these names, here and below
+abbrev pub line_members : List (List ℕ) → List Column → List ValueModel → List Member
+line_members attributes [] values = []
+line_members attributes (c ∷ cs) [] = []
+line_members attributes (c ∷ cs) (v ∷ vs) = value_members (column_word attributes c) v ++ line_members attributes cs vs
 
-abbrev pub line_object : List Column → List ValueModel → Json
-line_object columns values = object_with (line_members columns values)
+abbrev pub line_object : List (List ℕ) → List Column → List ValueModel → Json
+line_object attributes columns values = object_with (line_members attributes columns values)
 
 -- ---- the parts of a line of two reports: what it has of neither report, of the old one, and of the new one
 
@@ -54,15 +55,15 @@ column_in Old c = old_column c
 column_in New c = new_column c
 
 -- the member of a value in a column, or none if the value belongs to another part
-abbrev pub members_in : Option Column → ValueModel → List Member
-members_in None v = []
-members_in (Some c) v = value_members c v
+abbrev pub members_in : List (List ℕ) → Option Column → ValueModel → List Member
+members_in attributes None v = []
+members_in attributes (Some c) v = value_members (column_word attributes c) v
 
 -- the members of a line that belong to a part
-abbrev pub part_members : Part → List Column → List ValueModel → List Member
-part_members p [] values = []
-part_members p (c ∷ cs) [] = []
-part_members p (c ∷ cs) (v ∷ vs) = members_in (column_in p c) v ++ part_members p cs vs
+abbrev pub part_members : List (List ℕ) → Part → List Column → List ValueModel → List Member
+part_members attributes p [] values = []
+part_members attributes p (c ∷ cs) [] = []
+part_members attributes p (c ∷ cs) (v ∷ vs) = members_in attributes (column_in p c) v ++ part_members attributes p cs vs
 
 abbrev pub is_missing : ValueModel → Bool
 is_missing missing = true
@@ -81,16 +82,18 @@ lacks p (c ∷ cs) [] = true
 lacks p (c ∷ cs) (v ∷ vs) = lacks_in (column_in p c) v && lacks p cs vs
 
 -- the object of a line's values in one report, or null if the report lacks all of them, as those of a file that it does not have
-abbrev pub side_value : Part → List Column → List ValueModel → Json
-side_value p columns values = if lacks p columns values then null else object_with (part_members p columns values)
+abbrev pub side_value : List (List ℕ) → Part → List Column → List ValueModel → Json
+side_value attributes p columns values = if lacks p columns values then null else object_with (part_members attributes p columns values)
 
-abbrev pub change_members : List Column → List ValueModel → List Member
-change_members columns values =
-    part_members Own columns values ++ (codes "old", side_value Old columns values) ∷ (codes "new", side_value New columns values) ∷ []
+abbrev pub change_members : List (List ℕ) → List Column → List ValueModel → List Member
+change_members attributes columns values =
+    part_members attributes Own columns values ++ (codes "old", side_value attributes Old columns values)
+    ∷ (codes "new", side_value attributes New columns values) ∷ []
 
-abbrev pub change_object : List Column → List ValueModel → Json
-change_object columns values = object_with (change_members columns values)
+abbrev pub change_object : List (List ℕ) → List Column → List ValueModel → Json
+change_object attributes columns values = object_with (change_members attributes columns values)
 
 -- the object of a line, in a sheet that compares two reports or in another
-abbrev pub object_of : Bool → List Column → List ValueModel → Json
-object_of compares columns values = if compares then change_object columns values else line_object columns values
+abbrev pub object_of : Bool → List (List ℕ) → List Column → List ValueModel → Json
+object_of compares attributes columns values =
+    if compares then change_object attributes columns values else line_object attributes columns values

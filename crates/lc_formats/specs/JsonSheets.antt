@@ -8,20 +8,20 @@ use Rattle.lc_formats.specs.{JsonLines.object_of, JsonText.{Member, array_with, 
 
 -- the lines of a section, as the objects of an array
 abbrev pub list_member : Bool → List ℕ → SectionModel → Member
-list_member compares n s = (n, array_with (map (object_of compares s.columns) s.lines))
+list_member compares n s = (n, array_with (map (object_of compares s.attributes s.columns) s.lines))
 
 -- the same, if the sheet has the section
 abbrev pub some_list : Bool → List ℕ → Option SectionModel → List Member
 some_list compares n None = []
 some_list compares n (Some s) = list_member compares n s ∷ []
 
-abbrev pub object_members : Bool → List ℕ → List Column → Option (List ValueModel) → List Member
-object_members compares n columns None = []
-object_members compares n columns (Some values) = (n, object_of compares columns values) ∷ []
+abbrev pub object_members : Bool → List ℕ → List (List ℕ) → List Column → Option (List ValueModel) → List Member
+object_members compares n attributes columns None = []
+object_members compares n attributes columns (Some values) = (n, object_of compares attributes columns values) ∷ []
 
 -- a member whose value is the line at index i of a section, if the section has this line
 abbrev pub line_at : Bool → List ℕ → ℕ → SectionModel → List Member
-line_at compares n i s = object_members compares n s.columns (slice_get s.lines i)
+line_at compares n i s = object_members compares n s.attributes s.columns (slice_get s.lines i)
 
 -- ---- sheets
 

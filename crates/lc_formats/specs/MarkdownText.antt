@@ -1,8 +1,9 @@
 -- The text of a sheet as Markdown: tables of GitHub Flavored Markdown, with empty lines between the tables.
 use Rattle.std.specs.Prelude.{ℕ, List, [], ◌∷◌, ◌++◌, map, flat_map, codes, Option, Some, None}
-use Rattle.lc_sheet.specs.{ColumnWords.{heading, side_of}, Sheets.{SectionModel, SheetModel}, Values.{ValueModel, word, number}}
+use Rattle.lc_sheet.specs.{ColumnWords.side_of, Sheets.{SectionModel, SheetModel}, Values.{ValueModel, number}}
 use Rattle.lc_sheet.specs.declared.column.Column.{Column}
-use Rattle.lc_formats.specs.{MarkdownCells.{rule_cell, value_cell}, TableText.shown_totals, declared.markdown_line.Weight.Weight}
+use Rattle.lc_formats.specs.{Cells.heading_value, MarkdownCells.{rule_cell, value_cell}, TableText.shown_totals}
+use Rattle.lc_formats.specs.declared.markdown_line.Weight.{Weight}
 use Rattle.lc_formats.specs.declared.markdown_line.Weight.TheVariants.{Plain, Bold}
 
 -- ---- lines
@@ -18,17 +19,14 @@ lines_with weight lines = flat_map (line_with weight) lines
 abbrev pub rule_with : List Column → List ℕ
 rule_with columns = codes "|" ++ (flat_map (λ c. rule_cell (side_of c)) columns ++ codes "\n")
 
-abbrev pub heading_value : Column → ValueModel
-heading_value column = word (heading column)
-
-abbrev pub headings_with : List Column → List ℕ
-headings_with columns = line_with Plain (map heading_value columns) ++ rule_with columns
+abbrev pub headings_with : List (List ℕ) → List Column → List ℕ
+headings_with attributes columns = line_with Plain (map (heading_value attributes) columns) ++ rule_with columns
 
 -- ---- sections
 
 -- headings, and lines below them
 abbrev pub section_table : SectionModel → List ℕ
-section_table s = headings_with s.columns ++ lines_with Plain s.lines
+section_table s = headings_with s.attributes s.columns ++ lines_with Plain s.lines
 
 -- a text, or nothing if there are no lines
 abbrev pub if_listed : List (List ValueModel) → List ℕ → List ℕ

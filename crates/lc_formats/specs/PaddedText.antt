@@ -11,8 +11,8 @@ padded_rows ws headings rows sums =
 
 abbrev pub padded_summary : SheetModel → List ℕ
 padded_summary s =
-    padded_rows (summary_widths s.rows s.others (shown_totals s)) (heading_cells s.rows.columns) (row_lines s.rows s.others)
-    (section_cells (shown_totals s))
+    padded_rows (summary_widths s.rows s.others (shown_totals s)) (heading_cells s.rows.attributes s.rows.columns)
+    (row_lines s.rows s.others) (section_cells (shown_totals s))
 
 -- the numbers of directories and of their entries
 abbrev pub padded_counts : ℕ → Option ℕ → List ℕ

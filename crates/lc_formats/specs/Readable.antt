@@ -1,9 +1,10 @@
 -- What laws require of the values of a sheet: words are printable, and bytes are below 256.
-use Rattle.std.specs.{Prelude.{◌≡◌, ◌<◌, ℕ, ◌&&◌, nat_lt, Bool, true, List, ◌∷◌, ◌++◌, map, ⊤}, List.{All, AllZip, list_all}}
-use Rattle.lc_sheet.specs.{ColumnWords.side_of, Sheets.{SectionModel, SheetModel}, Values.{ValueModel, missing, summed, blank, word, name}}
-use Rattle.lc_sheet.specs.{Values.{path, number, share, bar, difference}, declared.column.Column.Column}
-use Rattle.lc_sheet.specs.declared.column.Side.{Side, TheVariants.{Left, Right, End}}
-use Rattle.lc_formats.specs.Layouts.{has_no_end, is_open}
+use Rattle.std.specs.{Prelude.{◌≡◌, ◌<◌, ℕ, ◌&&◌, nat_lt, Bool, true, false, List, ◌∷◌, ◌++◌, map, ⊤}, List.{All, AllZip, list_all}}
+use Rattle.lc_sheet.specs.{AttributeColumns.heading_of, ColumnWords.side_of, Sheets.{SectionModel, SheetModel}}
+use Rattle.lc_sheet.specs.Values.{ValueModel, missing, summed, blank, word, flag, name, path, number, share, bar, difference}
+use Rattle.lc_sheet.specs.declared.column.{Column.Column, Side.{Side, TheVariants.{Left, Right, End}}}
+use Rattle.lc_text.specs.Visible.{visible_bytes}
+use Rattle.lc_formats.specs.{Blanks.ends_in_blank, Layouts.{has_no_end, is_open}}
 
 -- a printable character of ASCII
 abbrev pub is_printable : ℕ → Bool
@@ -28,6 +29,7 @@ IsReadable side missing = ⊤
 IsReadable side summed = ⊤
 IsReadable side blank = ⊤
 IsReadable side (word w) = IsPlain w
+IsReadable side (flag is_set) = ⊤
 IsReadable side (name n) = IsPlain n.front × HasBytes side n.bytes × IsPlain n.end
 IsReadable side (path p) = HasBytes side p
 IsReadable side (number n) = ⊤
@@ -39,6 +41,10 @@ IsReadable side (difference old new) = ⊤
 abbrev pub AreReadable : List Column → List ValueModel → Type 0
 AreReadable columns values = AllZip (λ c v. IsReadable (side_of c) v) columns values
 
+-- names of columns of attributes whose headings are bytes
+abbrev pub AreNames : List (List ℕ) → Type 0
+AreNames names = All (λ n. AreBytes (heading_of n)) names
+
 -- ---- the rows and their sums
 
 -- a number, what is computed from numbers, or nothing because the column is summed over or does not apply; a missing value is none of these
@@ -47,6 +53,7 @@ IsNumeral missing = ⊥
 IsNumeral summed = ⊤
 IsNumeral blank = ⊤
 IsNumeral (word w) = ⊥
+IsNumeral (flag is_set) = ⊥
 IsNumeral (name n) = ⊥
 IsNumeral (path p) = ⊥
 IsNumeral (number n) = ⊤
@@ -64,9 +71,11 @@ pub record AreRows (columns : List Column) (s : SectionModel) : Type 0 where
   pub readable : All (AreReadable columns) s.lines
   pub numbers : All EndsInNumbers s.lines
 
--- a sheet whose rows and sums have the same columns, none of which ends its line
+-- a sheet whose rows and sums have the same columns, none of which ends its line, and in which no heading of an attribute ends in a blank
 pub record IsTabular (s : SheetModel) : Type 0 where
   pub closed : has_no_end (map side_of s.rows.columns) ≡ true
+  pub names : AreNames s.rows.attributes
+  pub bare : All (λ n. ends_in_blank (visible_bytes (heading_of n)) ≡ false) s.rows.attributes
   pub rows : AreRows s.rows.columns s.rows
   pub others : AreRows s.rows.columns s.others
   pub totals : AreRows s.rows.columns s.totals
@@ -76,4 +85,5 @@ pub record IsTabular (s : SheetModel) : Type 0 where
 -- a section whose last column ends its line
 pub record IsListed (s : SectionModel) : Type 0 where
   pub opened : is_open (map side_of s.columns) ≡ true
+  pub names : AreNames s.attributes
   pub readable : All (AreReadable s.columns) s.lines

@@ -7,7 +7,7 @@ use Rattle.lc_formats.specs.{Cells.{cell_at, heading_cells, section_cells}, Colu
 
 -- the lines of a section, or the first line alone, without a word
 abbrev pub shown_lines : Bool → SectionModel → SectionModel
-shown_lines all s = record { tag = None; columns = s.columns; lines = if all then s.lines else take 1 s.lines }
+shown_lines all s = record { tag = None; attributes = []; columns = s.columns; lines = if all then s.lines else take 1 s.lines }
 
 -- the sums over all files, and also the sums over text files and over binary files if some file is binary
 abbrev pub shown_totals : SheetModel → SectionModel
@@ -23,11 +23,12 @@ row_lines rows others = section_cells rows ++ section_cells others
 
 abbrev pub summary_widths : SectionModel → SectionModel → SectionModel → List ℕ
 summary_widths rows others totals =
-    widths_of (heading_cells rows.columns ∷ (row_lines rows others ++ section_cells totals))
+    widths_of (heading_cells rows.attributes rows.columns ∷ (row_lines rows others ++ section_cells totals))
 
 abbrev pub summary_of : SectionModel → SectionModel → SectionModel → List ℕ
 summary_of rows others totals =
-    rows_in_columns (summary_widths rows others totals) (heading_cells rows.columns) (row_lines rows others) (section_cells totals)
+    rows_in_columns (summary_widths rows others totals) (heading_cells rows.attributes rows.columns) (row_lines rows others)
+    (section_cells totals)
 
 abbrev pub summary : SheetModel → List ℕ
 summary s = summary_of s.rows s.others (shown_totals s)
@@ -40,7 +41,7 @@ listing headings [] = []
 listing headings (l ∷ ls) = lines_in (widths_of (headings ∷ l ∷ ls)) (headings ∷ l ∷ ls) ++ codes "\n"
 
 abbrev pub section_listing : SectionModel → List ℕ
-section_listing s = listing (heading_cells s.columns) (section_cells s)
+section_listing s = listing (heading_cells s.attributes s.columns) (section_cells s)
 
 -- the same, if the sheet has the list
 abbrev pub list_listing : Option SectionModel → List ℕ

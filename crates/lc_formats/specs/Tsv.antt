@@ -2,7 +2,7 @@
 -- the errors.
 use Rattle.std.specs.{Prelude.{ℕ, List, [], ◌∷◌, ◌++◌, false, map, codes, decimal, Option, Some, None}, List.flat_map}
 use Rattle.lc_sheet.specs.{ColumnWords.column_name, Sheets.{SectionModel, SheetModel}, Values.{ValueModel, missing, summed, blank, word}}
-use Rattle.lc_sheet.specs.{Values.{name, path, number, share, bar, difference}, declared.column.Column.Column}
+use Rattle.lc_sheet.specs.{Values.{flag, flag_word, name, path, number, share, bar, difference}, declared.column.Column.Column}
 use Rattle.lc_text.specs.{Escape.{escape_bytes, escape_path}, Names.named}
 use Rattle.lc_formats.specs.TableText.{shown_lines}
 
@@ -12,6 +12,7 @@ field_of missing = codes "-"
 field_of summed = codes "*"
 field_of blank = []
 field_of (word w) = w
+field_of (flag is_set) = flag_word is_set
 field_of (name n) = named escape_bytes n
 field_of (path p) = escape_path p
 field_of (number n) = decimal n
@@ -25,8 +26,12 @@ line_with [] = codes "\n"
 line_with (f ∷ []) = f ++ codes "\n"
 line_with (f ∷ g ∷ fs) = f ++ codes "\t" ++ line_with (g ∷ fs)
 
-abbrev pub header_line : List Column → List ℕ
-header_line columns = line_with (map column_name columns)
+-- the name of a column as a field, and a line of these names
+abbrev pub header_field : List (List ℕ) → Column → List ℕ
+header_field attributes c = named escape_bytes (column_name attributes c)
+
+abbrev pub header_line : List (List ℕ) → List Column → List ℕ
+header_line attributes columns = line_with (map (header_field attributes) columns)
 
 -- the fields of a line: the word that names it, if there is one, and its values
 abbrev pub values_line : Option (List ℕ) → List ValueModel → List ℕ
@@ -49,6 +54,6 @@ list_lines (Some s) = section_lines s
 -- the text of a sheet; of the lines of totals only the first is written, the sums over all files
 abbrev pub tsv_of : SheetModel → List ℕ
 tsv_of s =
-    header_line s.rows.columns ++ section_lines s.rows ++ section_lines s.others ++ section_lines (shown_lines false s.totals)
-    ++ number_line (codes "directories") s.directories ++ number_line (codes "entries") s.entries ++ list_lines s.files
-    ++ list_lines s.skipped ++ list_lines s.faults
+    header_line s.rows.attributes s.rows.columns ++ section_lines s.rows ++ section_lines s.others
+    ++ section_lines (shown_lines false s.totals) ++ number_line (codes "directories") s.directories
+    ++ number_line (codes "entries") s.entries ++ list_lines s.files ++ list_lines s.skipped ++ list_lines s.faults

@@ -1,10 +1,10 @@
 -- How wide the lines of a text in columns are: of the rows with their sums, of the counts, and of each list.
 use Rattle.std.specs.{Prelude.{◌≡◌, ℕ, false, List, [], ◌∷◌, ◌++◌, map, Option, IfSome}, List.{All, AllZip}}
-use Rattle.lc_sheet.specs.{ColumnWords.heading, Sheets.{SectionModel, SheetModel}, Values.ValueModel, declared.column.Column.Column}
+use Rattle.lc_sheet.specs.{Sheets.{SectionModel, SheetModel}, Values.ValueModel, declared.column.Column.Column}
 use Rattle.lc_text.specs.Lines.{input_lines_of}
-use Rattle.lc_formats.specs.{Blanks.{ends_in_blank, without_blanks}, Cells.shown_text, Columns.width_of, PaddedText.padded_counts}
-use Rattle.lc_formats.specs.{PaddedText.padded_summary, Readable.{IsListed, IsTabular}, TableText.{counts_of, section_listing, summary}}
-use Rattle.lc_formats.specs.TableText.{table_of}
+use Rattle.lc_formats.specs.{Blanks.{ends_in_blank, without_blanks}, Cells.{heading_value, shown_text}, Columns.width_of}
+use Rattle.lc_formats.specs.{PaddedText.{padded_counts, padded_summary}, Readable.{IsListed, IsTabular}}
+use Rattle.lc_formats.specs.TableText.{counts_of, section_listing, summary, table_of}
 
 -- the lines have one width
 abbrev pub AreAsWide : List (List ℕ) → Type 0
@@ -26,10 +26,10 @@ IsAlignedListing heading (end ∷ ends) text =
     (lines : List (List ℕ)) × (input_lines_of text ≡ lines ++ [] ∷ []) × AreAligned lines (heading ∷ end ∷ ends)
 
 -- the heading of the last column; the last text of a line is below
-abbrev pub last_heading : List Column → List ℕ
-last_heading [] = []
-last_heading (c ∷ []) = heading c
-last_heading (c ∷ d ∷ ds) = last_heading (d ∷ ds)
+abbrev pub last_heading : List (List ℕ) → List Column → List ℕ
+last_heading attributes [] = []
+last_heading attributes (c ∷ []) = shown_text (heading_value attributes c)
+last_heading attributes (c ∷ d ∷ ds) = last_heading attributes (d ∷ ds)
 
 abbrev pub last_text : List ValueModel → List ℕ
 last_text [] = []
@@ -47,7 +47,7 @@ CountsWidthLaw = (directories : ℕ) (entries : Option ℕ) → AreEven (padded_
 -- a list whose last column ends its line is aligned
 abbrev pub ListingWidthLaw : Type 0
 ListingWidthLaw =
-    (s : SectionModel) → IsListed s → IsAlignedListing (last_heading s.columns) (map last_text s.lines) (section_listing s)
+    (s : SectionModel) → IsListed s → IsAlignedListing (last_heading s.attributes s.columns) (map last_text s.lines) (section_listing s)
 
 -- a text that ends a line with something other than a blank
 abbrev pub HasEnd : List ℕ → Type 0

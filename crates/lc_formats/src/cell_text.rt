@@ -7,7 +7,7 @@ ghost use Rattle.lc_sheet.specs.Values.{value_model};
 
 use crate::numbers::{push_change, push_number};
 use crate::shares::{push_bar, push_share};
-use lc_sheet::Value;
+use lc_sheet::{Value, flag_word};
 use lc_text::{push_visible_name, push_visible_path};
 use std::alloc::AllocError;
 use unicode_width::UnicodeWidthStr;
@@ -20,6 +20,7 @@ pub(crate) fn push_value(text: &mut String, value: &Value<'_>) -> Result<(), All
         Value::Missing => text.push_str("-"),
         Value::Summed | Value::Blank => Ok(()),
         Value::Word(word) => text.push_str(word),
+        Value::Flag(is_set) => text.push_str(flag_word(is_set)),
         Value::Name(name) => push_visible_name(text, name),
         Value::Path(path) => push_visible_path(text, path),
         Value::Number(n) => push_number(text, n),

@@ -7,7 +7,7 @@ ghost use Rattle.lc_sheet.specs.Sheets.{line_of};
 ghost use Rattle.lc_sheet.specs.Values.{value_model};
 
 use crate::cell_text::{make_value, make_wide, push_value};
-use lc_sheet::{Column, Form, Lines, Side, Value};
+use lc_sheet::{AttributeColumn, Column, Form, Lines, Side, Value};
 use std::alloc::AllocError;
 
 /// A cell of a line: a value, and the side of its column at which the value is aligned.
@@ -50,12 +50,12 @@ impl<'a> Cell<'a> {
     }
 
     /// Makes the cell of the heading of a column.
-    pub(crate) fn heading(column: Column) -> Cell<'a>
-        ensures { cell_model result ≡ heading_cell column }
+    pub(crate) fn heading(attributes: &'a [AttributeColumn], column: Column) -> Cell<'a>
+        ensures { cell_model result ≡ heading_cell attributes.entry.now column }
     {
         Cell {
             side: column.side(),
-            value: Value::Word(column.heading()),
+            value: Value::Name(column.heading(attributes)),
         }
     }
 
@@ -119,23 +119,32 @@ impl<'a> Cell<'a> {
     }
 }
 
-fn push_headings(cells: &mut Vec<Cell<'_>>, columns: &[Column]) -> Result<(), AllocError>
-    ensures { OnOk result (cells_of cells.new.items ≡ cells_of cells.old.items ++ heading_cells columns.now) }
+fn push_headings<'a>(
+    cells: &mut Vec<Cell<'a>>,
+    attributes: &'a [AttributeColumn],
+    columns: &[Column],
+) -> Result<(), AllocError>
+    ensures { OnOk result (cells_of cells.new.items
+        ≡ cells_of cells.old.items ++ heading_cells attributes.entry.now columns.now) }
 {
     let mut rest = columns;
     'columns: while let Some((column, others)) = rest.split_first() {
-        cells.push(Cell::heading(*column))?;
+        cells.push(Cell::heading(attributes, *column))?;
         rest = others;
     }
     Ok(())
 }
 
 /// Sets the cells to the headings of columns.
-pub(crate) fn set_headings(cells: &mut Vec<Cell<'_>>, columns: &[Column]) -> Result<(), AllocError>
-    ensures { OnOk result (cells_of cells.new.items ≡ heading_cells columns.now) }
+pub(crate) fn set_headings<'a>(
+    cells: &mut Vec<Cell<'a>>,
+    attributes: &'a [AttributeColumn],
+    columns: &[Column],
+) -> Result<(), AllocError>
+    ensures { OnOk result (cells_of cells.new.items ≡ heading_cells attributes.entry.now columns.now) }
 {
     cells.clear();
-    push_headings(cells, columns)
+    push_headings(cells, attributes, columns)
 }
 
 /// Appends the cell of a line in a column.

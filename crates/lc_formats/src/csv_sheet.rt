@@ -2,14 +2,13 @@
 
 ghost use Rattle.std.specs.Prelude.{◌≡◌, [], ◌∷◌, ◌++◌, map, IfOk, OnOk};
 ghost use Rattle.std.specs.List.{flat_map};
-ghost use Rattle.lc_formats.specs.Csv.{csv_of, csv_section, field_of, records_of};
+ghost use Rattle.lc_formats.specs.Csv.{csv_of, csv_section, field_of, header_field, records_of};
 ghost use Rattle.lc_formats.specs.CsvText.{record_text};
-ghost use Rattle.lc_sheet.specs.ColumnWords.{column_name};
 ghost use Rattle.lc_sheet.specs.Sheets.{line_of, lines_of};
 ghost use Rattle.lc_sheet.specs.Values.{value_model};
 
 use crate::csv_records::{CsvText, Fields};
-use lc_sheet::{Column, Form, Lines, Section, Sheet, Value};
+use lc_sheet::{AttributeColumn, Column, Form, Lines, Section, Sheet, Value, flag_word};
 use std::alloc::{AllocError, Global};
 
 /// Appends a value as a field.
@@ -20,6 +19,7 @@ fn push_value(fields: &mut Fields, value: Value<'_>) -> Result<(), AllocError>
 {
     match value {
         Value::Word(word) => fields.push(word.as_bytes()),
+        Value::Flag(is_set) => fields.push(flag_word(is_set).as_bytes()),
         Value::Name(name) => fields.push_name(name),
         Value::Path(path) => fields.push(path),
         Value::Number(number) => fields.push_number(number),
@@ -73,11 +73,15 @@ fn set_fields<L: Lines>(
     Ok(())
 }
 
-fn push_names(fields: &mut Fields, columns: &[Column]) -> Result<(), AllocError>
-    ensures { OnOk result (fields.new ≡ fields.old ++ map column_name columns.now) }
+fn push_names(
+    fields: &mut Fields,
+    attributes: &[AttributeColumn],
+    columns: &[Column],
+) -> Result<(), AllocError>
+    ensures { OnOk result (fields.new ≡ fields.old ++ map (header_field attributes.now) columns.now) }
 {
     for column in columns {
-        fields.push(column.name().as_bytes())?;
+        fields.push_name(column.name(attributes))?;
     }
     Ok(())
 }
@@ -86,12 +90,13 @@ fn push_names(fields: &mut Fields, columns: &[Column]) -> Result<(), AllocError>
 fn push_headings(
     text: &mut CsvText,
     fields: &mut Fields,
+    attributes: &[AttributeColumn],
     columns: &[Column],
 ) -> Result<(), AllocError>
-    ensures { OnOk result (text.new ≡ text.old ++ record_text (map column_name columns.now)) }
+    ensures { OnOk result (text.new ≡ text.old ++ record_text (map (header_field attributes.now) columns.now)) }
 {
     fields.clear();
-    push_names(fields, columns)?;
+    push_names(fields, attributes, columns)?;
     text.push_record(fields)
 }
 
@@ -121,7 +126,7 @@ fn push_section<L: Lines>(
     ensures { OnOk result (text.new ≡ text.old ++ flat_map record_text (records_of section.now)) }
 {
     let (form, columns, lines) = section.parts();
-    push_headings(text, fields, columns)?;
+    push_headings(text, fields, section.attributes(), columns)?;
     push_lines::<L>(text, fields, form, columns, lines)
 }
 

@@ -10,43 +10,44 @@ ghost use Rattle.lc_formats.specs.JsonTokens.{member_tokens, members_tokens_of};
 use crate::json_sides::write_change;
 use crate::json_values::write_columns;
 use crate::json_writer::JsonText;
-use lc_sheet::{Column, Form, Lines, Section};
+use lc_sheet::{AttributeColumn, Column, Form, Lines, Section};
 use std::alloc::AllocError;
 
 /// Writes a line of a section as an object.
 fn write_line<L: Lines>(
     text: &mut JsonText,
-    joined: &mut Vec<u8>,
+    attributes: &[AttributeColumn],
     compares: bool,
     form: Form,
     columns: &[Column],
     line: &L::Line,
 ) -> Result<(), AllocError>
     ensures { OnOk result (text.new
-        ≡ text.old ++ json_tokens (object_of compares columns.now (line_of (L.value_in form) columns.now line.now))) }
+        ≡ text.old ++ json_tokens (object_of compares attributes.now columns.now (line_of (L.value_in form) columns.now line.now))) }
 {
     if compares {
-        return write_change::<L>(text, joined, form, columns, line);
+        return write_change::<L>(text, attributes, form, columns, line);
     }
     text.begin_object()?;
-    write_columns::<L>(text, joined, form, columns, line)?;
+    write_columns::<L>(text, attributes, form, columns, line)?;
     text.end_object()?;
     Ok(())
 }
 
 fn write_lines<L: Lines>(
     text: &mut JsonText,
-    joined: &mut Vec<u8>,
+    attributes: &[AttributeColumn],
     compares: bool,
     form: Form,
     columns: &[Column],
     lines: &[L::Line],
 ) -> Result<(), AllocError>
     ensures { OnOk result (text.new ≡ text.old
-        ++ flat_map (λ values. json_tokens (object_of compares columns.now values)) (lines_of (L.value_in form) columns.now lines.now)) }
+        ++ flat_map (λ values. json_tokens (object_of compares attributes.now columns.now values))
+        (lines_of (L.value_in form) columns.now lines.now)) }
 {
     for line in lines {
-        write_line::<L>(text, joined, compares, form, columns, line)?;
+        write_line::<L>(text, attributes, compares, form, columns, line)?;
     }
     Ok(())
 }
@@ -54,7 +55,6 @@ fn write_lines<L: Lines>(
 /// Writes a member whose value is an array of the lines of a section.
 pub(crate) fn write_list<L: Lines>(
     text: &mut JsonText,
-    joined: &mut Vec<u8>,
     compares: bool,
     name: &str,
     section: &Section<'_, L>,
@@ -63,7 +63,7 @@ pub(crate) fn write_list<L: Lines>(
 {
     let (form, columns, lines) = section.parts();
     text.begin_list(name)?;
-    write_lines::<L>(text, joined, compares, form, columns, lines)?;
+    write_lines::<L>(text, section.attributes(), compares, form, columns, lines)?;
     text.end_array()?;
     Ok(())
 }
@@ -71,7 +71,6 @@ pub(crate) fn write_list<L: Lines>(
 /// Writes the same member, if the sheet has the section.
 pub(crate) fn write_some<L: Lines>(
     text: &mut JsonText,
-    joined: &mut Vec<u8>,
     compares: bool,
     name: &str,
     section: &Option<Section<'_, L>>,
@@ -80,14 +79,13 @@ pub(crate) fn write_some<L: Lines>(
 {
     match section {
         None => Ok(()),
-        Some(section) => write_list(text, joined, compares, name, section),
+        Some(section) => write_list(text, compares, name, section),
     }
 }
 
 /// Writes a member whose value is the line at this index of a section, if the section has such a line.
 pub(crate) fn write_line_at<L: Lines>(
     text: &mut JsonText,
-    joined: &mut Vec<u8>,
     compares: bool,
     name: &str,
     index: usize,
@@ -98,7 +96,7 @@ pub(crate) fn write_line_at<L: Lines>(
     let (form, columns, lines) = section.parts();
     if let Some(line) = lines.get(index) {
         text.key(name)?;
-        write_line::<L>(text, joined, compares, form, columns, line)?;
+        write_line::<L>(text, section.attributes(), compares, form, columns, line)?;
     }
     Ok(())
 }

@@ -13,15 +13,14 @@ use std::alloc::{AllocError, Global};
 
 fn write_totals<T: Lines>(
     text: &mut JsonText,
-    joined: &mut Vec<u8>,
     compares: bool,
     totals: &Section<'_, T>,
 ) -> Result<(), AllocError>
     ensures { OnOk result (text.new ≡ text.old ++ members_tokens_of (totals_members compares totals.now)) }
 {
-    write_line_at(text, joined, compares, "total", 0, totals)?;
-    write_line_at(text, joined, compares, "text", 1, totals)?;
-    write_line_at(text, joined, compares, "binary", 2, totals)?;
+    write_line_at(text, compares, "total", 0, totals)?;
+    write_line_at(text, compares, "text", 1, totals)?;
+    write_line_at(text, compares, "binary", 2, totals)?;
     Ok(())
 }
 
@@ -37,13 +36,12 @@ fn write_number(text: &mut JsonText, name: &str, number: Option<u64>) -> Result<
 
 fn write_numbers<R: Lines, T: Lines, F: Lines, S: Lines, E: Lines>(
     text: &mut JsonText,
-    joined: &mut Vec<u8>,
     sheet: &Sheet<'_, R, T, F, S, E>,
 ) -> Result<(), AllocError>
     ensures { OnOk result (text.new ≡ text.old ++ members_tokens_of (number_members sheet.now)) }
 {
-    write_line_at(text, joined, sheet.compares, "others", 0, &sheet.others)?;
-    write_totals(text, joined, sheet.compares, &sheet.totals)?;
+    write_line_at(text, sheet.compares, "others", 0, &sheet.others)?;
+    write_totals(text, sheet.compares, &sheet.totals)?;
     write_number(text, "directories", sheet.directories)?;
     write_number(text, "entries", sheet.entries)?;
     Ok(())
@@ -51,28 +49,26 @@ fn write_numbers<R: Lines, T: Lines, F: Lines, S: Lines, E: Lines>(
 
 fn write_lists<R: Lines, T: Lines, F: Lines, S: Lines, E: Lines>(
     text: &mut JsonText,
-    joined: &mut Vec<u8>,
     sheet: &Sheet<'_, R, T, F, S, E>,
 ) -> Result<(), AllocError>
     ensures { OnOk result (text.new ≡ text.old ++ members_tokens_of (list_members sheet.now)) }
 {
-    write_some(text, joined, sheet.compares, "files", &sheet.files)?;
-    write_some(text, joined, sheet.compares, "left", &sheet.skipped)?;
-    write_some(text, joined, sheet.compares, "faults", &sheet.faults)?;
+    write_some(text, sheet.compares, "files", &sheet.files)?;
+    write_some(text, sheet.compares, "left", &sheet.skipped)?;
+    write_some(text, sheet.compares, "faults", &sheet.faults)?;
     Ok(())
 }
 
 fn write_sheet<R: Lines, T: Lines, F: Lines, S: Lines, E: Lines>(
     text: &mut JsonText,
-    joined: &mut Vec<u8>,
     sheet: &Sheet<'_, R, T, F, S, E>,
 ) -> Result<(), AllocError>
     ensures { OnOk result (text.new ≡ text.old ++ json_tokens (json_of sheet.now)) }
 {
     text.begin_object()?;
-    write_list(text, joined, sheet.compares, "rows", &sheet.rows)?;
-    write_numbers(text, joined, sheet)?;
-    write_lists(text, joined, sheet)?;
+    write_list(text, sheet.compares, "rows", &sheet.rows)?;
+    write_numbers(text, sheet)?;
+    write_lists(text, sheet)?;
     text.end_object()?;
     Ok(())
 }
@@ -91,7 +87,6 @@ pub(crate) fn json_text<R: Lines, T: Lines, F: Lines, S: Lines, E: Lines>(
     ensures document { IfOk result (λ text. IsDocument (json_of sheet.now) text.items) }
 {
     let mut text = JsonText::new(alloc);
-    let mut joined = Vec::new(alloc);
-    write_sheet(&mut text, &mut joined, sheet)?;
+    write_sheet(&mut text, sheet)?;
     text.into_line()
 }

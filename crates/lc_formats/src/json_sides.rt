@@ -10,7 +10,7 @@ ghost use Rattle.lc_formats.specs.JsonTokens.{members_tokens_of};
 
 use crate::json_values::write_value;
 use crate::json_writer::JsonText;
-use lc_sheet::{Column, Form, Lines, Value};
+use lc_sheet::{AttributeColumn, Column, Form, Lines, Value};
 use std::alloc::AllocError;
 
 /// One of the three parts of the JSON object for a line of a comparison.
@@ -72,36 +72,39 @@ fn lacks<L: Lines>(part: Part, form: Form, columns: &[Column], line: &L::Line) -
 /// Writes the member for the value of a line in a column, if the value belongs to the part.
 fn write_member<L: Lines>(
     text: &mut JsonText,
-    joined: &mut Vec<u8>,
+    attributes: &[AttributeColumn],
     part: Part,
     form: Form,
     column: Column,
     line: &L::Line,
 ) -> Result<(), AllocError>
     ensures { OnOk result (text.new
-        ≡ text.old ++ members_tokens_of (members_in (column_in part column) (L.value_in form line.now column))) }
+        ≡ text.old ++ members_tokens_of (members_in attributes.now (column_in part column) (L.value_in form line.now column))) }
 {
     match part.column(column) {
         None => Ok(()),
-        Some(named) => write_value(text, joined, named, &L::value(line, form, column)),
+        Some(named) => {
+            let member = named.word(attributes);
+            write_value(text, member, &L::value(line, form, column))
+        }
     }
 }
 
 /// Writes the members of a line that belong to the part.
 fn write_part<L: Lines>(
     text: &mut JsonText,
-    joined: &mut Vec<u8>,
+    attributes: &[AttributeColumn],
     part: Part,
     form: Form,
     columns: &[Column],
     line: &L::Line,
 ) -> Result<(), AllocError>
-    ensures { OnOk result (text.new
-        ≡ text.old ++ members_tokens_of (part_members part columns.now (line_of (L.value_in form) columns.now line.now))) }
+    ensures { OnOk result (text.new ≡ text.old
+        ++ members_tokens_of (part_members attributes.now part columns.now (line_of (L.value_in form) columns.now line.now))) }
 {
     let mut rest = columns;
     'columns: while let Some((column, others)) = rest.split_first() {
-        write_member::<L>(text, joined, part, form, *column, line)?;
+        write_member::<L>(text, attributes, part, form, *column, line)?;
         rest = others;
     }
     Ok(())
@@ -110,20 +113,20 @@ fn write_part<L: Lines>(
 /// Writes the values of one report in a line as an object, or null if the report lacks the line.
 fn write_side<L: Lines>(
     text: &mut JsonText,
-    joined: &mut Vec<u8>,
+    attributes: &[AttributeColumn],
     part: Part,
     form: Form,
     columns: &[Column],
     line: &L::Line,
 ) -> Result<(), AllocError>
     ensures { OnOk result (text.new
-        ≡ text.old ++ json_tokens (side_value part columns.now (line_of (L.value_in form) columns.now line.now))) }
+        ≡ text.old ++ json_tokens (side_value attributes.now part columns.now (line_of (L.value_in form) columns.now line.now))) }
 {
     if lacks::<L>(part, form, columns, line) {
         return text.null();
     }
     text.begin_object()?;
-    write_part::<L>(text, joined, part, form, columns, line)?;
+    write_part::<L>(text, attributes, part, form, columns, line)?;
     text.end_object()?;
     Ok(())
 }
@@ -131,20 +134,20 @@ fn write_side<L: Lines>(
 /// Writes a line of a comparison as an object.
 pub(crate) fn write_change<L: Lines>(
     text: &mut JsonText,
-    joined: &mut Vec<u8>,
+    attributes: &[AttributeColumn],
     form: Form,
     columns: &[Column],
     line: &L::Line,
 ) -> Result<(), AllocError>
     ensures { OnOk result (text.new
-        ≡ text.old ++ json_tokens (change_object columns.now (line_of (L.value_in form) columns.now line.now))) }
+        ≡ text.old ++ json_tokens (change_object attributes.now columns.now (line_of (L.value_in form) columns.now line.now))) }
 {
     text.begin_object()?;
-    write_part::<L>(text, joined, Part::Own, form, columns, line)?;
+    write_part::<L>(text, attributes, Part::Own, form, columns, line)?;
     text.key("old")?;
-    write_side::<L>(text, joined, Part::Old, form, columns, line)?;
+    write_side::<L>(text, attributes, Part::Old, form, columns, line)?;
     text.key("new")?;
-    write_side::<L>(text, joined, Part::New, form, columns, line)?;
+    write_side::<L>(text, attributes, Part::New, form, columns, line)?;
     text.end_object()?;
     Ok(())
 }

@@ -1,52 +1,32 @@
 //! Values of a sheet as JSON, and those of a line.
 
 ghost use Rattle.std.specs.Prelude.{◌≡◌, ◌++◌, OnOk};
+ghost use Rattle.lc_sheet.specs.ColumnWords.{column_word};
 ghost use Rattle.lc_sheet.specs.Sheets.{line_of};
-ghost use Rattle.lc_sheet.specs.Values as value;
 ghost use Rattle.lc_sheet.specs.Values.{value_model};
-ghost use Rattle.lc_text.specs.Names.{name_model};
 ghost use Rattle.lc_formats.specs.JsonLines.{line_members, value_members};
 ghost use Rattle.lc_formats.specs.JsonTokens.{members_tokens_of};
 
-use crate::joined::{has_bytes_alone, join_name};
 use crate::json_writer::JsonText;
-use lc_sheet::{Column, Form, Lines, Value};
-use lc_text::Name;
+use lc_sheet::{AttributeColumn, Column, Form, Lines, Value};
 use std::alloc::AllocError;
 
-/// Writes the member for a name in a column. The name is copied only if something is printed before or after its bytes.
-fn write_name(
-    text: &mut JsonText,
-    joined: &mut Vec<u8>,
-    column: Column,
-    name: Name<'_>,
-) -> Result<(), AllocError>
-    ensures { OnOk result (text.new ≡ text.old ++ members_tokens_of (value_members column (value.name (name_model name.entry)))) }
-{
-    if has_bytes_alone(name) {
-        return text.bytes_member(column.name(), name.bytes);
-    }
-    joined.clear();
-    join_name(joined, name)?;
-    text.bytes_member(column.name(), joined)
-}
-
-/// Writes the member for the value of a line in a column. Values that JSON does not show, such as `Blank`, have no member.
+/// Writes the member for a value: a member with this name. Values that JSON does not show, such as `Blank`, have no member.
 #[inline(always)]
 pub(crate) fn write_value(
     text: &mut JsonText,
-    joined: &mut Vec<u8>,
-    column: Column,
+    member: &str,
     value: &Value<'_>,
 ) -> Result<(), AllocError>
-    ensures { OnOk result (text.new ≡ text.old ++ members_tokens_of (value_members column (value_model value.now))) }
+    ensures { OnOk result (text.new ≡ text.old ++ members_tokens_of (value_members member.now (value_model value.now))) }
 {
     match *value {
-        Value::Missing => text.null_member(column.name())?,
-        Value::Word(word) => text.string_member(column.name(), word)?,
-        Value::Name(name) => write_name(text, joined, column, name)?,
-        Value::Path(path) => text.bytes_member(column.name(), path)?,
-        Value::Number(number) => text.integer_member(column.name(), number)?,
+        Value::Missing => text.null_member(member)?,
+        Value::Word(word) => text.string_member(member, word)?,
+        Value::Flag(is_set) => text.boolean_member(member, is_set)?,
+        Value::Name(name) => text.name_member(member, name)?,
+        Value::Path(path) => text.bytes_member(member, path)?,
+        Value::Number(number) => text.integer_member(member, number)?,
         Value::Summed
         | Value::Blank
         | Value::Share { .. }
@@ -59,29 +39,31 @@ pub(crate) fn write_value(
 #[inline(always)]
 fn write_column<L: Lines>(
     text: &mut JsonText,
-    joined: &mut Vec<u8>,
+    attributes: &[AttributeColumn],
     form: Form,
     column: Column,
     line: &L::Line,
 ) -> Result<(), AllocError>
-    ensures { OnOk result (text.new ≡ text.old ++ members_tokens_of (value_members column (L.value_in form line.now column))) }
+    ensures { OnOk result (text.new
+        ≡ text.old ++ members_tokens_of (value_members (column_word attributes.now column) (L.value_in form line.now column))) }
 {
-    write_value(text, joined, column, &L::value(line, form, column))
+    let member = column.word(attributes);
+    write_value(text, member, &L::value(line, form, column))
 }
 
 /// Writes the members for the values of a line in each column.
 pub(crate) fn write_columns<L: Lines>(
     text: &mut JsonText,
-    joined: &mut Vec<u8>,
+    attributes: &[AttributeColumn],
     form: Form,
     columns: &[Column],
     line: &L::Line,
 ) -> Result<(), AllocError>
-    ensures { OnOk result (text.new
-        ≡ text.old ++ members_tokens_of (line_members columns.now (line_of (L.value_in form) columns.now line.now))) }
+    ensures { OnOk result (text.new ≡ text.old
+        ++ members_tokens_of (line_members attributes.now columns.now (line_of (L.value_in form) columns.now line.now))) }
 {
     for column in columns {
-        write_column::<L>(text, joined, form, *column, line)?;
+        write_column::<L>(text, attributes, form, *column, line)?;
     }
     Ok(())
 }

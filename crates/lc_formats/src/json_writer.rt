@@ -3,14 +3,18 @@
 ghost use Rattle.std.specs.Prelude.{◌≡◌, [], ◌∷◌, ◌++◌, codes, decimal, map, IfOk, OnOk};
 ghost use Rattle.json.specs.Lex.{tokens};
 ghost use Rattle.json.specs.Print.{print};
-ghost use Rattle.json.specs.Token.{begin_object, end_object, begin_array, end_array, key, string, number, null};
+ghost use Rattle.json.specs.Token.{begin_object, end_object, begin_array, end_array, boolean, key, string, number, null};
 ghost use Rattle.std.specs.List.{flat_map};
 ghost use Rattle.lc_formats.specs.JsonText.{array_with, bytes_member, bytes_name, integer};
 ghost use Rattle.lc_formats.specs.JsonTokens.{member_tokens};
+ghost use Rattle.lc_text.specs.Names.{name_model, named};
 
+use crate::joined::{has_bytes_alone, join_name};
 use json::Writer;
+use lc_text::Name;
 use std::alloc::{AllocError, Global};
 use std::marker::Model;
+use std::mem;
 use std::str::from_utf8;
 
 /// A JSON text that is written token by token. The caller must nest the tokens correctly.
@@ -18,6 +22,8 @@ use std::str::from_utf8;
 pub(crate) struct JsonText {
     writer: Writer<Global>,
     bytes_name: String,
+    joined: Vec<u8>,
+    alloc: Global,
 }
 
 impl Model for JsonText {
@@ -40,6 +46,8 @@ impl JsonText {
         JsonText {
             writer: Writer::new(Vec::new(alloc)),
             bytes_name: String::new(alloc),
+            joined: Vec::new(alloc),
+            alloc,
         }
     }
 
@@ -121,6 +129,15 @@ impl JsonText {
         Ok(())
     }
 
+    /// Writes a member whose value is true or false.
+    pub(crate) fn boolean_member(&mut self, name: &str, value: bool) -> Result<(), AllocError>
+        ensures { OnOk result (self.new ≡ self.old ++ key name.now ∷ boolean value ∷ []) }
+    {
+        self.key(name)?;
+        self.writer.boolean(value)?;
+        Ok(())
+    }
+
     /// Writes a member whose value is a number.
     pub(crate) fn integer_member(&mut self, name: &str, n: u128) -> Result<(), AllocError>
         ensures { OnOk result (self.new ≡ self.old ++ key name.now ∷ number (decimal n) ∷ []) }
@@ -178,6 +195,24 @@ impl JsonText {
             Ok(text) => self.string_member(name, text)?,
             Err(_) => self.integers_member(name, bytes)?,
         }
+        Ok(())
+    }
+
+    /// Writes a name as a member whose value is a string, or an array of numbers as in `bytes_member`. The name is copied only if something
+    /// is printed before or after its bytes.
+    pub(crate) fn name_member(&mut self, member: &str, name: Name<'_>) -> Result<(), AllocError>
+        ensures { OnOk result (self.new
+            ≡ self.old ++ member_tokens (bytes_member member.now (named (λ bytes. bytes) (name_model name.entry)))) }
+    {
+        if has_bytes_alone(name) {
+            return self.bytes_member(member, name.bytes);
+        }
+        // The buffer is moved out of the text while the member is written from it.
+        let mut joined = mem::replace(&mut self.joined, Vec::new(self.alloc));
+        joined.clear();
+        join_name(&mut joined, name)?;
+        self.bytes_member(member, &joined)?;
+        self.joined = joined;
         Ok(())
     }
 }

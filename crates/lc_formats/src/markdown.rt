@@ -34,7 +34,7 @@ fn push_table<L: Lines>(
 ) -> Result<(), AllocError>
     ensures { OnOk result (text.new.items ≡ text.old.items ++ section_table section.now) }
 {
-    push_headings(text, section.columns(), made)?;
+    push_headings(text, section.attributes(), section.columns(), made)?;
     push_lines(text, Weight::Plain, section, made)
 }
 

@@ -1,14 +1,15 @@
 //! The lines of a Markdown table.
 
 ghost use Rattle.std.specs.Prelude.{◌≡◌, ◌++◌, map, OnOk};
+ghost use Rattle.lc_formats.specs.Cells.{heading_value};
 ghost use Rattle.lc_formats.specs.MarkdownCells.{bold, rule_cell, value_cell, weighted};
-ghost use Rattle.lc_formats.specs.MarkdownText.{heading_value, headings_with, line_with, rule_with};
+ghost use Rattle.lc_formats.specs.MarkdownText.{headings_with, line_with, rule_with};
 ghost use Rattle.lc_sheet.specs.Sheets.{line_of};
 ghost use Rattle.lc_sheet.specs.Values.{value_model};
 
 use crate::cell_text::make_value;
 use crate::markdown_escape::push_markdown;
-use lc_sheet::{Column, Form, Lines, Side, Value};
+use lc_sheet::{AttributeColumn, Column, Form, Lines, Side, Value};
 use std::alloc::AllocError;
 
 /// Whether the values of a line are printed plain or in bold.
@@ -102,23 +103,32 @@ pub(crate) fn push_line<L: Lines>(
     text.extend_from_slice(b"\n")
 }
 
-fn push_heading(text: &mut Vec<u8>, column: Column, made: &mut String) -> Result<(), AllocError>
-    ensures { OnOk result (text.new.items ≡ text.old.items ++ value_cell Weight.Plain (heading_value column)) }
+fn push_heading(
+    text: &mut Vec<u8>,
+    attributes: &[AttributeColumn],
+    column: Column,
+    made: &mut String,
+) -> Result<(), AllocError>
+    ensures { OnOk result (text.new.items
+        ≡ text.old.items ++ value_cell Weight.Plain (heading_value attributes.now column)) }
 {
-    push_value(text, Weight::Plain, &Value::Word(column.heading()), made)
+    let heading = column.heading(attributes);
+    push_value(text, Weight::Plain, &Value::Name(heading), made)
 }
 
 fn push_heading_line(
     text: &mut Vec<u8>,
+    attributes: &[AttributeColumn],
     columns: &[Column],
     made: &mut String,
 ) -> Result<(), AllocError>
-    ensures { OnOk result (text.new.items ≡ text.old.items ++ line_with Weight.Plain (map heading_value columns.now)) }
+    ensures { OnOk result (text.new.items
+        ≡ text.old.items ++ line_with Weight.Plain (map (heading_value attributes.now) columns.now)) }
 {
     text.extend_from_slice(b"|")?;
     let mut rest = columns;
     'columns: while let Some((column, others)) = rest.split_first() {
-        push_heading(text, *column, made)?;
+        push_heading(text, attributes, *column, made)?;
         rest = others;
     }
     text.extend_from_slice(b"\n")
@@ -149,11 +159,12 @@ fn push_rule(text: &mut Vec<u8>, columns: &[Column]) -> Result<(), AllocError>
 /// Appends the headings of a table, and the line below them.
 pub(crate) fn push_headings(
     text: &mut Vec<u8>,
+    attributes: &[AttributeColumn],
     columns: &[Column],
     made: &mut String,
 ) -> Result<(), AllocError>
-    ensures { OnOk result (text.new.items ≡ text.old.items ++ headings_with columns.now) }
+    ensures { OnOk result (text.new.items ≡ text.old.items ++ headings_with attributes.now columns.now) }
 {
-    push_heading_line(text, columns, made)?;
+    push_heading_line(text, attributes, columns, made)?;
     push_rule(text, columns)
 }

@@ -58,13 +58,13 @@ fn push_some<'a, L: Lines>(
     made: &mut String,
 ) -> Result<(), AllocError>
     ensures { OnOk result (string_bytes text.new ≡ string_bytes text.old
-        ++ listing_in (widened widths.old (heading_cells section.now.columns ∷ section_cells section.now))
-        (heading_cells section.now.columns) (section_cells section.now)) }
+        ++ listing_in (widened widths.old (heading_cells section.now.attributes section.now.columns ∷ section_cells section.now))
+        (heading_cells section.now.attributes section.now.columns) (section_cells section.now)) }
 {
-    set_headings(cells, section.columns())?;
+    set_headings(cells, section.attributes(), section.columns())?;
     widths.fit(cells, made)?;
     fit_lines(widths, section, cells, made)?;
-    set_headings(cells, section.columns())?;
+    set_headings(cells, section.attributes(), section.columns())?;
     widths.push_line(cells, text, made)?;
     push_lines(widths, section, cells, text, made)?;
     text.push_str("\n")?;

@@ -41,11 +41,11 @@ fn push_rows<'a, R: Lines, T: Lines>(
 }
 
 /// Appends the headings of the rows, the rows, and the sums over them.
-fn push_summary<R: Lines, T: Lines>(
+fn push_summary<'a, R: Lines, T: Lines>(
     alloc: Global,
-    rows: &Section<'_, R>,
-    others: &Section<'_, T>,
-    totals: &Section<'_, T>,
+    rows: &Section<'a, R>,
+    others: &Section<'a, T>,
+    totals: &Section<'a, T>,
     text: &mut String,
     made: &mut String,
 ) -> Result<(), AllocError>
@@ -53,11 +53,11 @@ fn push_summary<R: Lines, T: Lines>(
 {
     let mut cells = Vec::new(alloc);
     let mut widths = Widths::new(alloc);
-    set_headings(&mut cells, rows.columns())?;
+    set_headings(&mut cells, rows.attributes(), rows.columns())?;
     widths.fit(&cells, made)?;
     fit_rows(&mut widths, rows, others, &mut cells, made)?;
     fit_lines(&mut widths, totals, &mut cells, made)?;
-    set_headings(&mut cells, rows.columns())?;
+    set_headings(&mut cells, rows.attributes(), rows.columns())?;
     widths.push_line(&cells, text, made)?;
     widths.push_rule(text)?;
     push_rows(&widths, rows, others, &mut cells, text, made)?;

@@ -15,7 +15,7 @@ pub fn numbers_with_commas_read_back()
 /// are removed. The headings, rows and sums have one width. The lines with the numbers of directories and of entries have one width. In a
 /// list of which only the last column is not padded, the lines have one width up to this column. The law requires printable words, and
 /// names whose bytes are numbers below 256. For the rows and sums, the law also requires that they have the same columns, that all these
-/// columns are padded, and that their lines end with numbers.
+/// columns are padded, that no heading of an attribute ends with a blank, and that their lines end with numbers.
 pub fn lines_of_a_part_are_as_wide()
     ensures summary { SummaryWidthLaw }
     ensures counts { CountsWidthLaw }

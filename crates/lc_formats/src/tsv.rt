@@ -2,15 +2,14 @@
 
 ghost use Rattle.std.specs.Prelude.{◌≡◌, ◌++◌, OnOk, IfOk, option_map};
 ghost use Rattle.std.specs.List.{flat_map};
-ghost use Rattle.lc_sheet.specs.ColumnWords.{column_name};
 ghost use Rattle.lc_sheet.specs.Sheets.{line_of, lines_of};
 ghost use Rattle.lc_sheet.specs.Values.{value_model};
-ghost use Rattle.lc_formats.specs.Tsv.{field_of, header_line, list_lines, number_line, section_lines, tsv_of, values_line};
+ghost use Rattle.lc_formats.specs.Tsv.{field_of, header_field, header_line, list_lines, number_line, section_lines, tsv_of, values_line};
 ghost use Rattle.lc_formats.specs.TsvParts.{after_tab};
 
 use crate::numbers::push_digits;
 use crate::section_lines::shown_lines;
-use lc_sheet::{Column, Form, Lines, Section, Sheet, Value};
+use lc_sheet::{AttributeColumn, Column, Form, Lines, Section, Sheet, Value, flag_word};
 use lc_text::{push_name, push_path};
 use std::alloc::{AllocError, Global};
 
@@ -27,6 +26,7 @@ fn push_value(text: &mut Vec<u8>, value: Value<'_>) -> Result<(), AllocError>
         Value::Missing => text.extend_from_slice(b"-"),
         Value::Summed => text.extend_from_slice(b"*"),
         Value::Word(word) => text.extend_from_slice(word.as_bytes()),
+        Value::Flag(is_set) => text.extend_from_slice(flag_word(is_set).as_bytes()),
         Value::Name(name) => push_name(text, name),
         Value::Path(path) => push_path(text, path),
         Value::Number(number) => push_digits(text, number),
@@ -136,24 +136,33 @@ fn push_list<L: Lines>(text: &mut Vec<u8>, list: &Option<Section<'_, L>>) -> Res
     }
 }
 
-fn push_names(text: &mut Vec<u8>, columns: &[Column]) -> Result<(), AllocError>
-    ensures { OnOk result (text.new.items ≡ text.old.items ++ flat_map (λ column. after_tab (column_name column)) columns.now) }
+fn push_names(
+    text: &mut Vec<u8>,
+    attributes: &[AttributeColumn],
+    columns: &[Column],
+) -> Result<(), AllocError>
+    ensures { OnOk result (text.new.items
+        ≡ text.old.items ++ flat_map (λ column. after_tab (header_field attributes.now column)) columns.now) }
 {
     for column in columns {
         text.extend_from_slice(b"\t")?;
-        text.extend_from_slice(column.name().as_bytes())?;
+        push_name(text, column.name(attributes))?;
     }
     Ok(())
 }
 
-fn push_header(text: &mut Vec<u8>, columns: &[Column]) -> Result<(), AllocError>
-    ensures { OnOk result (text.new.items ≡ text.old.items ++ header_line columns.now) }
+fn push_header(
+    text: &mut Vec<u8>,
+    attributes: &[AttributeColumn],
+    columns: &[Column],
+) -> Result<(), AllocError>
+    ensures { OnOk result (text.new.items ≡ text.old.items ++ header_line attributes.now columns.now) }
 {
     let Some((first, rest)) = columns.split_first() else {
         return text.extend_from_slice(b"\n");
     };
-    text.extend_from_slice(first.name().as_bytes())?;
-    push_names(text, rest)?;
+    push_name(text, first.name(attributes))?;
+    push_names(text, attributes, rest)?;
     text.extend_from_slice(b"\n")?;
     Ok(())
 }
@@ -187,7 +196,7 @@ pub(crate) fn tsv_text<R: Lines, T: Lines, F: Lines, S: Lines, E: Lines>(
     ensures { IfOk result (λ text. text.items ≡ tsv_of sheet.now) }
 {
     let mut text = Vec::new(alloc);
-    push_header(&mut text, sheet.rows.columns())?;
+    push_header(&mut text, sheet.rows.attributes(), sheet.rows.columns())?;
     push_section(&mut text, &sheet.rows)?;
     push_section(&mut text, &sheet.others)?;
     push_section(&mut text, &shown_lines(false, &sheet.totals))?;

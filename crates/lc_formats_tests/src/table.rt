@@ -2,6 +2,7 @@
 //! check what no contract states: a run succeeds if no allocation fails.
 
 mod asking;
+mod attributes;
 mod cuts;
 mod directories;
 mod failing_calls;

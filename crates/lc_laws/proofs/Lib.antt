@@ -26,6 +26,7 @@ pub mod JsonMembers
 pub mod PrintedMembers
 pub mod WordsRead
 pub mod ListsReadBack
+pub mod StatesReadBack
 pub mod LinesReadBack
 pub mod SkippedReadBack
 pub mod OneOrder

@@ -30,19 +30,19 @@ no_object text more ms is none =
     sym (object_first text more ms is) ∙ ap (punctuate fresh) none in cc
 
 -- the one report, which is in the line
-pub record OneReport (line : List ℕ) (reports : List Report) : Type 0 where
+pub record OneReport (attributes : List (List ℕ)) (line : List ℕ) (reports : List Report) : Type 0 where
   pub read : Report
   pub one : reports ≡ read ∷ []
-  pub is : IsReportText line read
+  pub is : IsReportText attributes line read
 
-module _ (line blank : List ℕ) (ns : Members) (line_is : document line ≡ Some (object ns)) where
+module _ (attributes : List (List ℕ)) (line blank : List ℕ) (ns : Members) (line_is : document line ≡ Some (object ns)) where
   one_of : (texts : List (List ℕ)) (reports : List Report) → line ++ codes "\n" ≡ flat_map (λ t. t) texts ++ blank
-      → AreReportTexts texts reports → 0 < length reports → OneReport line reports
+      → AreReportTexts attributes texts reports → 0 < length reports → OneReport attributes line reports
   one_of [] [] whole each some = absurd (omega arith)
   one_of [] (q ∷ qs) whole each some = absurd each
   one_of (t ∷ ts) [] whole each some = absurd each
   one_of (t ∷ []) (q ∷ []) whole each some =
-      let own : IsReportText t q = each.0 in
+      let own : IsReportText attributes t q = each.0 in
       let both = first_is_line line t ([] ++ blank) ns (members_with own.members) line_is own.value_is
       (whole ∙ append_assoc t [] blank) in record {
         read = q;
@@ -52,15 +52,15 @@ module _ (line blank : List ℕ) (ns : Members) (line_is : document line ≡ Som
   one_of (t ∷ []) (q ∷ p ∷ ps) whole each some = absurd each.1
   one_of (t ∷ u ∷ us) (q ∷ []) whole each some = absurd each.1
   one_of (t ∷ u ∷ us) (q ∷ p ∷ ps) whole each some =
-      let own : IsReportText t q = each.0 in
-      let next : IsReportText u p = each.1.0 in
+      let own : IsReportText attributes t q = each.0 in
+      let next : IsReportText attributes u p = each.1.0 in
       let both = first_is_line line t (flat_map (λ t. t) (u ∷ us) ++ blank) ns (members_with own.members) line_is own.value_is
       (whole ∙ append_assoc t (flat_map (λ t. t) (u ∷ us)) blank) in
       let left : lex between (u ++ (flat_map (λ t. t) us ++ blank)) ≡ [] =
       ap (lex between) (sym (append_assoc u (flat_map (λ t. t) us) blank)) ∙ both.1 in
       absurd (no_object u (flat_map (λ t. t) us ++ blank) (members_with next.members) next.value_is left)
 
-pub one_report : (line text : List ℕ) (ns : Members) (reports : List Report) → document line ≡ Some (object ns)
-    → text ≡ line ++ codes "\n" → AreReportsOf text reports → OneReport line reports
-one_report line text ns reports line_is text_is are =
-    one_of line are.blank ns line_is are.texts reports (sym text_is ∙ are.whole) are.each are.some
+pub one_report : (attributes : List (List ℕ)) (line text : List ℕ) (ns : Members) (reports : List Report) → document line ≡ Some (object ns)
+    → text ≡ line ++ codes "\n" → AreReportsOf attributes text reports → OneReport attributes line reports
+one_report attributes line text ns reports line_is text_is are =
+    one_of attributes line are.blank ns line_is are.texts reports (sym text_is ∙ are.whole) are.each are.some

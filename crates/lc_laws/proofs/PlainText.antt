@@ -8,7 +8,8 @@ use Rattle.lc_formats.specs.Tsv.{field_of, header_line, line_with, list_lines, n
 use Rattle.lc_level.specs.{FaultLines.FaultLineModel, FaultWords.fault_word, Level.FileLineModel}
 use Rattle.lc_rows.specs.{Kept.whole_form, Kinds.{extension_value, fault_value, file_value, row_value, skipped_value, sums_value}}
 use Rattle.lc_rows.specs.{Kinds.word_value, SheetColumns.{fault_columns, listed_columns, listed_skipped, row_columns}}
-use Rattle.lc_rows.specs.{Sheets.{list_of, listed_files, section_of, sheet_of, totals_lines}, ShownRows.part_of_row, Views.view_of}
+use Rattle.lc_rows.specs.{Sheets.{list_of, listed_files, section_of, sheet_of, totals_lines, with_attributes}, ShownRows.part_of_row}
+use Rattle.lc_rows.specs.{Views.view_of}
 use Rattle.lc_rules.specs.TextWords.{text_word}
 use Rattle.lc_sheet.specs.{Sheets.{line_of, lines_of}, declared.column.Column.Column}
 use Rattle.lc_text.specs.Escape.{escape_bytes, escape_path}
@@ -72,15 +73,17 @@ entries_unprinted : (n : ℕ) (left_out : Bool) → left_out ≡ false → numbe
 entries_unprinted n left_out none = rw none refl
 
 skipped_unprinted : (r : Report) (left_out : Bool) → left_out ≡ false
-    → list_lines (if left_out then Some (list_of (codes "left") (section_of (skipped_value whole_form) listed_skipped r.skipped.items)) else None) ≡ []
+    → list_lines (if left_out then Some (list_of (codes "left") (section_of (skipped_value whole_form) listed_skipped r.skipped.items))
+    else None) ≡ []
 skipped_unprinted r left_out none = rw none refl
 
-files_printed : (b : Bool) (fs : List FileLineModel)
-    → list_lines (if b then Some (list_of (codes "file") (section_of (file_value whole_form) listed_columns (listed_files b fs))) else None)
+files_printed : (attributes : List (List ℕ)) (b : Bool) (fs : List FileLineModel)
+    → list_lines (if b then Some (list_of (codes "file") (with_attributes attributes (section_of (file_value whole_form) listed_columns
+    (listed_files b fs)))) else None)
     ≡ (if b then flat_map file_line fs else [])
-files_printed true fs =
+files_printed attributes true fs =
     flat_map-map (values_line (Some (codes "file"))) (line_of (file_value whole_form) listed_columns) fs ∙ each fs file_printed
-files_printed false fs = refl
+files_printed attributes false fs = refl
 
 faults_printed : (fs : List FaultLineModel)
     → flat_map (values_line (Some (codes "fault"))) (lines_of (fault_value whole_form) fault_columns fs)
@@ -98,13 +101,13 @@ in_a_row : (h : List ℕ) {rows rows' total total' ds ds' entries fs fs' skipped
 in_a_row h e1 e2 e3 e4 e5 e6 e7 = rw (e1, e2, e3, e4, e5, e6, e7) (simp append-nil)
 
 pub plain_table_law : PlainTableLaw
-plain_table_law b r s unlisted sheet =
+plain_table_law b attributes r s unlisted sheet =
     ap tsv_of sheet.has.is
-    ∙ ap (λ fs. tsv_of (sheet_of (plain_options b) r (view_of None sheet.has.rows (listed_files b fs)))) sheet.are_files
-    ∙ in_a_row (header_line columns)
+    ∙ ap (λ fs. tsv_of (sheet_of (plain_options b) attributes r (view_of None sheet.has.rows (listed_files b fs)))) sheet.are_files
+    ∙ in_a_row (header_line attributes columns)
     (ap (λ rs. flat_map (values_line None) (lines_of (row_value whole_form) columns rs)) (sheet.has.are_rows.2 ∙ sheet.has.are_rows.1)
     ∙ rows_printed r.rows.items) (total_printed r.totals r.classes) (tabbed (codes "directories" ∷ decimal r.directories ∷ []))
-    (entries_unprinted r.entries r.lists.left_out unlisted.unlisted) (files_printed b r.files.items)
+    (entries_unprinted r.entries r.lists.left_out unlisted.unlisted) (files_printed attributes b r.files.items)
     (skipped_unprinted r r.lists.left_out unlisted.unlisted)
     (faults_printed r.faults.items)
 

@@ -5,7 +5,7 @@ use Rattle.lc_formats.proofs.ShareLawProofs.{parts_law}
 use Rattle.lc_formats.specs.Shares.{rounded_parts}
 use Rattle.lc_rows.proofs.WalkedSheets.{walked_sheet_law}
 use Rattle.lc_rows.specs.SheetLaws.{IsSectionWithin, IsWithin}
-use Rattle.lc_sheet.specs.{Sheets.SectionModel, Values.{ValueModel, missing, summed, blank, word, name, path, number, share, bar}}
+use Rattle.lc_sheet.specs.{Sheets.SectionModel, Values.{ValueModel, missing, summed, blank, word, flag, name, path, number, share, bar}}
 use Rattle.lc_sheet.specs.Values.{difference}
 use Rattle.lc_tree.specs.Trees.{Listings, Contents}
 use Rattle.lc_laws.specs.PrintedShares.{AreSharesWithin, IsPrintedWithin, PrintedSharesLaw}
@@ -15,6 +15,7 @@ value_printed missing within = tt
 value_printed summed within = tt
 value_printed blank within = tt
 value_printed (word w) within = tt
+value_printed (flag is_set) within = tt
 value_printed (name n) within = tt
 value_printed (path p) within = tt
 value_printed (number n) within = tt
@@ -28,8 +29,8 @@ section_printed section within =
     (λ line all. All-weaker IsWithin IsPrintedWithin value_printed line all) section.lines within
 
 pub printed_shares_law : (lists : List ℕ → Listings) (gives : List ℕ → Contents) → PrintedSharesLaw lists gives
-printed_shares_law lists gives o options r s w listed sheet =
-    let shares = (walked_sheet_law lists gives o options r s w listed sheet).shares in record {
+printed_shares_law lists gives o options attributes r s w listed sheet =
+    let shares = (walked_sheet_law lists gives o options attributes r s w listed sheet).shares in record {
       rows = section_printed s.rows shares.rows;
       others = section_printed s.others shares.others;
       totals = section_printed s.totals shares.totals;

@@ -8,14 +8,16 @@ use Rattle.lc_sheet.specs.declared.table_options.TableOptions.{TableOptions}
 use Rattle.lc_walk.specs.declared.report.Report.{Report}
 use Rattle.lc_rows.specs.{Kinds.{file_value, row_value, skipped_value}, SheetColumns.{file_columns, keeps_columns, key_columns}}
 use Rattle.lc_rows.specs.{SheetColumns.{number_columns, row_columns, share_columns, skipped_columns}, Sheets.{form_of, list_of, section_of}}
+use Rattle.lc_rows.specs.Sheets.{with_attributes}
 use Rattle.lc_rows.specs.{Sheets.sheet_of, Views.ViewModel}
 use Rattle.lc_formats.specs.CsvLaws.{HasColumns}
 use Rattle.lc_laws.specs.SheetReadable.{SheetRecordsLaw}
 
 -- lines in columns have a value in each
-made_with : {X : Type 0} (tag : Option (List ℕ)) (value : X → Column → ValueModel) (columns : List Column) (lines : List X)
-    → 0 < length columns → HasColumns (record (section_of value columns lines) { tag = tag })
-made_with tag value columns lines some = record {
+made_with : {X : Type 0} (tag : Option (List ℕ)) (attributes : List (List ℕ)) (value : X → Column
+    → ValueModel) (columns : List Column) (lines : List X)
+    → 0 < length columns → HasColumns (record (section_of value columns lines) { tag = tag; attributes = attributes })
+made_with tag attributes value columns lines some = record {
   some = some;
   each = All-map (λ (values : List ValueModel). length values ≡ length columns) (line_of value columns) lines
       (λ k d within. length-map columns (value (slice_index_or lines k d)));
@@ -47,23 +49,23 @@ file_columns_some Json by = omega arith
 file_columns_some Csv by = omega arith
 file_columns_some Markdown by = omega arith
 
-module _ (options : TableOptions) (r : Report) (v : ViewModel) where
+module _ (options : TableOptions) (attributes : List (List ℕ)) (r : Report) (v : ViewModel) where
   at : (files left_out : Bool)
       → HasColumns (unwrap_or
-      (if files then Some (list_of (codes "file") (section_of (file_value (form_of options r.totals v.rows))
-      (file_columns (sheet_format options.output) options.by) v.files)) else None)
+      (if files then Some (list_of (codes "file") (with_attributes attributes (section_of (file_value (form_of options r.totals v.rows))
+      (file_columns (sheet_format options.output) options.by) v.files))) else None)
       (unwrap_or (if left_out then Some (list_of (codes "left") (section_of (skipped_value (form_of options r.totals v.rows))
-      (skipped_columns (sheet_format options.output)) r.skipped.items)) else None) (sheet_of options r v).rows))
+      (skipped_columns (sheet_format options.output)) r.skipped.items)) else None) (sheet_of options attributes r v).rows))
   at true left_out =
-      made_with (Some (codes "file")) (file_value (form_of options r.totals v.rows))
+      made_with (Some (codes "file")) attributes (file_value (form_of options r.totals v.rows))
       (file_columns (sheet_format options.output) options.by) v.files
       (file_columns_some (sheet_format options.output) options.by)
   at false true =
-      made_with (Some (codes "left")) (skipped_value (form_of options r.totals v.rows))
+      made_with (Some (codes "left")) [] (skipped_value (form_of options r.totals v.rows))
       (skipped_columns (sheet_format options.output)) r.skipped.items
       (skipped_columns_some (sheet_format options.output))
   at false false =
-      made_with None (row_value (form_of options r.totals v.rows)) (row_columns options) v.rows (row_columns_some options)
+      made_with None attributes (row_value (form_of options r.totals v.rows)) (row_columns options) v.rows (row_columns_some options)
 
 pub sheet_columns : SheetRecordsLaw
-sheet_columns options r v = at options r v options.files r.lists.left_out
+sheet_columns options attributes r v = at options attributes r v options.files r.lists.left_out

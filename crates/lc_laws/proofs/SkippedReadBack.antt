@@ -15,7 +15,6 @@ use Rattle.lc_text.specs.RulePlaces.{source_directory, source_name}
 use Rattle.lc_laws.proofs.{JsonMembers.{bytes_read, list_of_bytes, lists_if, same_integer, text_of_bytes, texts_if}, LinesReadBack.one_word}
 use Rattle.lc_laws.proofs.{PrintedMembers.values_of_members, WordsRead.{both_by_attribute, both_by_rule}}
 use Rattle.lc_laws.specs.ReadBack.{FitsSkipped, file_of_rule, line_of_rule, skipped_text}
-use Rattle.lc_sheet.specs.declared.column.Column.TheVariants as column
 
 -- ---- the file of a rule consists of bytes
 
@@ -51,9 +50,9 @@ rule_bytes p rule small =
 -- what is printed of a rule
 abbrev RuleAt : List Member → List ℕ → Option (RuleSource × ℕ) → Type 0
 RuleAt ms p rule =
-    (values_at (codes "file") ms ≡ values_at (codes "file") (value_members column.File (file_value_of p rule)) ++ [])
-    × (values_at (codes "file_bytes") ms ≡ values_at (codes "file_bytes") (value_members column.File (file_value_of p rule)) ++ [])
-    × (values_at (codes "line") ms ≡ values_at (codes "line") (value_members column.Line (line_value_of rule)) ++ [])
+    (values_at (codes "file") ms ≡ values_at (codes "file") (value_members (codes "file") (file_value_of p rule)) ++ [])
+    × (values_at (codes "file_bytes") ms ≡ values_at (codes "file_bytes") (value_members (codes "file") (file_value_of p rule)) ++ [])
+    × (values_at (codes "line") ms ≡ values_at (codes "line") (value_members (codes "line") (line_value_of rule)) ++ [])
 
 rule_read_back : (ms : List Member) (p q : List ℕ) (a b : Option (RuleSource × ℕ)) → AreBytes p → AreBytes q
     → IfSome a (λ rule. rule.1 < 2 ^ 32) → IfSome b (λ rule. rule.1 < 2 ^ 32) → is_some a ≡ is_some b → RuleAt ms p a → HasRule ms q b
@@ -64,11 +63,11 @@ rule_read_back ms p q (Some a) None p_bytes q_bytes fits_a fits_b both printed i
 rule_read_back ms p q (Some a) (Some b) p_bytes q_bytes fits_a fits_b both printed is =
     let ended : file_of_rule p a ++ [] ≡ file_of_rule p a = append-nil (file_of_rule p a) in
     let texts : values_at (codes "file") ms ≡ texts_if (is_utf8 (file_of_rule p a)) (file_of_rule p a) =
-    printed.0 ∙ append-nil (values_at (codes "file") (value_members column.File (file_value_of p (Some a))))
+    printed.0 ∙ append-nil (values_at (codes "file") (value_members (codes "file") (file_value_of p (Some a))))
     ∙ text_of_bytes (codes "file") refl refl (is_utf8 (file_of_rule p a ++ [])) (file_of_rule p a ++ [])
     ∙ ap (λ (bytes : List ℕ). texts_if (is_utf8 bytes) bytes) ended in
     let lists : values_at (codes "file_bytes") ms ≡ lists_if (is_utf8 (file_of_rule p a)) (file_of_rule p a) =
-    printed.1 ∙ append-nil (values_at (codes "file_bytes") (value_members column.File (file_value_of p (Some a))))
+    printed.1 ∙ append-nil (values_at (codes "file_bytes") (value_members (codes "file") (file_value_of p (Some a))))
     ∙ list_of_bytes (codes "file") refl refl (is_utf8 (file_of_rule p a ++ [])) (file_of_rule p a ++ [])
     ∙ ap (λ (bytes : List ℕ). lists_if (is_utf8 bytes) bytes) ended in
     let a_line : a.1 < 2 ^ 32 = fits_a in
@@ -81,9 +80,9 @@ rule_read_back ms p q (Some a) (Some b) p_bytes q_bytes fits_a fits_b both print
 -- what is printed of an attribute
 abbrev AttributeAt : List Member → Option (List ℕ) → Type 0
 AttributeAt ms word =
-    (values_at (codes "attribute") ms ≡ values_at (codes "attribute") (value_members column.Attribute (name_of_attribute word)) ++ [])
+    (values_at (codes "attribute") ms ≡ values_at (codes "attribute") (value_members (codes "attribute") (name_of_attribute word)) ++ [])
     × (values_at (codes "attribute_bytes") ms
-    ≡ values_at (codes "attribute_bytes") (value_members column.Attribute (name_of_attribute word)) ++ [])
+    ≡ values_at (codes "attribute_bytes") (value_members (codes "attribute") (name_of_attribute word)) ++ [])
 
 attribute_read_back : (ms : List Member) (a b : Option (List ℕ)) → IfSome a AreBytes → IfSome b AreBytes → is_some a ≡ is_some b
     → AttributeAt ms a → HasAttribute ms b → b ≡ a
@@ -93,11 +92,11 @@ attribute_read_back ms (Some a) None a_bytes b_bytes both printed is = absurd (c
 attribute_read_back ms (Some a) (Some b) a_bytes b_bytes both printed is =
     let ended : a ++ [] ++ [] ≡ a = append-nil (a ++ []) ∙ append-nil a in
     let texts : values_at (codes "attribute") ms ≡ texts_if (is_utf8 a) a =
-    printed.0 ∙ append-nil (values_at (codes "attribute") (value_members column.Attribute (name_of_attribute (Some a))))
+    printed.0 ∙ append-nil (values_at (codes "attribute") (value_members (codes "attribute") (name_of_attribute (Some a))))
     ∙ text_of_bytes (codes "attribute") refl refl (is_utf8 (a ++ [] ++ [])) (a ++ [] ++ [])
     ∙ ap (λ (bytes : List ℕ). texts_if (is_utf8 bytes) bytes) ended in
     let lists : values_at (codes "attribute_bytes") ms ≡ lists_if (is_utf8 a) a =
-    printed.1 ∙ append-nil (values_at (codes "attribute_bytes") (value_members column.Attribute (name_of_attribute (Some a))))
+    printed.1 ∙ append-nil (values_at (codes "attribute_bytes") (value_members (codes "attribute") (name_of_attribute (Some a))))
     ∙ list_of_bytes (codes "attribute") refl refl (is_utf8 (a ++ [] ++ [])) (a ++ [] ++ [])
     ∙ ap (λ (bytes : List ℕ). lists_if (is_utf8 bytes) bytes) ended in
     ap Some (bytes_read (values_at (codes "attribute") ms) (values_at (codes "attribute_bytes") ms) a b texts lists
@@ -107,31 +106,31 @@ attribute_read_back ms (Some a) (Some b) a_bytes b_bytes both printed is =
 
 module _ (form : Form) (l : SkippedLineModel) where
   abbrev skipped_members : List Member
-  skipped_members = line_members recorded_skipped (line_of (skipped_value form) recorded_skipped l)
+  skipped_members = line_members [] recorded_skipped (line_of (skipped_value form) recorded_skipped l)
 
   skipped_path_text : values_at (codes "path") skipped_members ≡ texts_if (is_utf8 l.path) l.path
   skipped_path_text =
-      values_of_members (codes "path") recorded_skipped (line_of (skipped_value form) recorded_skipped l)
+      values_of_members [] (codes "path") recorded_skipped (line_of (skipped_value form) recorded_skipped l)
       ∙ append-nil (values_at (codes "path") (bytes_member (codes "path") l.path ∷ []))
       ∙ text_of_bytes (codes "path") refl refl (is_utf8 l.path) l.path
 
   skipped_path_list : values_at (codes "path_bytes") skipped_members ≡ lists_if (is_utf8 l.path) l.path
   skipped_path_list =
-      values_of_members (codes "path_bytes") recorded_skipped (line_of (skipped_value form) recorded_skipped l)
+      values_of_members [] (codes "path_bytes") recorded_skipped (line_of (skipped_value form) recorded_skipped l)
       ∙ append-nil (values_at (codes "path_bytes") (bytes_member (codes "path") l.path ∷ []))
       ∙ list_of_bytes (codes "path") refl refl (is_utf8 l.path) l.path
 
   skipped_rule : RuleAt skipped_members l.path (rule_of l.reason)
   skipped_rule = (
-    values_of_members (codes "file") recorded_skipped (line_of (skipped_value form) recorded_skipped l),
-    values_of_members (codes "file_bytes") recorded_skipped (line_of (skipped_value form) recorded_skipped l),
-    values_of_members (codes "line") recorded_skipped (line_of (skipped_value form) recorded_skipped l),
+    values_of_members [] (codes "file") recorded_skipped (line_of (skipped_value form) recorded_skipped l),
+    values_of_members [] (codes "file_bytes") recorded_skipped (line_of (skipped_value form) recorded_skipped l),
+    values_of_members [] (codes "line") recorded_skipped (line_of (skipped_value form) recorded_skipped l),
   )
 
   skipped_attribute : AttributeAt skipped_members (attribute_of l.reason)
   skipped_attribute = (
-    values_of_members (codes "attribute") recorded_skipped (line_of (skipped_value form) recorded_skipped l),
-    values_of_members (codes "attribute_bytes") recorded_skipped (line_of (skipped_value form) recorded_skipped l),
+    values_of_members [] (codes "attribute") recorded_skipped (line_of (skipped_value form) recorded_skipped l),
+    values_of_members [] (codes "attribute_bytes") recorded_skipped (line_of (skipped_value form) recorded_skipped l),
   )
 
   -- a skipped entry is read with the texts with which it was printed
@@ -144,10 +143,10 @@ module _ (form : Form) (l : SkippedLineModel) where
       is.path in
       let kind : kind_word k.kind ≡ kind_word l.kind =
       one_word (kind_word l.kind) (kind_word k.kind)
-      (sym (values_of_members (codes "kind") recorded_skipped (line_of (skipped_value form) recorded_skipped l)) ∙ is.kind) in
+      (sym (values_of_members [] (codes "kind") recorded_skipped (line_of (skipped_value form) recorded_skipped l)) ∙ is.kind) in
       let reason : reason_word k.reason ≡ reason_word l.reason =
       one_word (reason_word l.reason) (reason_word k.reason)
-      (sym (values_of_members (codes "reason") recorded_skipped (line_of (skipped_value form) recorded_skipped l)) ∙ is.reason.word) in
+      (sym (values_of_members [] (codes "reason") recorded_skipped (line_of (skipped_value form) recorded_skipped l)) ∙ is.reason.word) in
       let rule : (option_map (file_of_rule k.path) (rule_of k.reason) ≡ option_map (file_of_rule l.path) (rule_of l.reason))
       × (option_map line_of_rule (rule_of k.reason) ≡ option_map line_of_rule (rule_of l.reason)) =
       rule_read_back skipped_members l.path k.path (rule_of l.reason) (rule_of k.reason) l_fits.path k_fits.path l_fits.line k_fits.line

@@ -42,24 +42,24 @@ kept_whole (c ∷ cs) whole r is adds_up listed files faults skipped = record {
 }
 
 pub read_back_law : (lists : List ℕ → Listings) (gives : List ℕ → Contents) → ReadBackLaw lists gives
-read_back_law lists gives o options r s text reports w listed json sheet (line, text_is, line_is) fits read_fits are =
+read_back_law lists gives o options attributes r s text reports w listed json shown sheet (line, text_is, line_is) fits read_fits are =
     let whole : IsWholeReport r =
     kept_whole w.conditions w.whole r w.kept (walked_adds_up lists gives o r w)
     (ap (λ (l : ReportLists). l.files) (walked_lists lists gives o w.whole w.walked) ∙ listed) w.walked.files_once w.walked.faults_once
     w.walked.skipped_once in
     let members : List Member =
-    report_members (printed_parts options r sheet.has.rows sheet.files) r.lists.left_out r.entries
+    report_members (printed_parts options attributes r sheet.has.rows sheet.files) r.lists.left_out r.entries
     r.skipped.items in
     let value : json_of s ≡ object_with members =
-    ap json_of sheet.has.is ∙ sheet_printed options r sheet.has.rows sheet.files json in
+    ap json_of sheet.has.is ∙ sheet_printed options attributes r sheet.has.rows sheet.files json in
     let line_members : document line ≡ Some (object_with members) = line_is ∙ ap (λ (j : Json). Some j) value in
-    let one : OneReport line reports = one_report line text (members_with members) reports line_members text_is are in
+    let one : OneReport attributes line reports = one_report attributes line text (members_with members) reports line_members text_is are in
     let read_fit : FitsTypes one.read =
     All-head (λ (q : Report). FitsTypes q) one.read []
     (subst (All (λ (q : Report). FitsTypes q)) one.one read_fits) in record {
       read = one.read;
       one = one.one;
-      is = report_read_back options r sheet.has.rows sheet.files one.read whole
-          (files_moved options.sort r.files.items sheet.files sheet.are_files) fits read_fit
-          (printed_members line members one.read line_members one.is);
+      is = report_read_back options attributes r sheet.has.rows sheet.files one.read whole
+          (files_moved options.sort r.files.items sheet.files sheet.are_files) fits read_fit shown
+          (printed_members attributes line members one.read line_members one.is);
     }

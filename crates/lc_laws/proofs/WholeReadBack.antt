@@ -1,7 +1,8 @@
 -- A report that was printed as JSON with all its files, and was read, is that report.
 use Rattle.std.proofs.Common.{◌≡◌, ◌≢◌, ◌∙◌, ◌⊎◌, inl, inr, ◌<◌, ◌^◌, ℕ, Bool, true, false, List, [], ◌∷◌, map, codes, refl, sym, ap}
-use Rattle.std.proofs.{Common.{subst, arith, is_some, IsPermutation}, lemmas.List.Sorted.{All-permutation, IsPermutation-trans}}
-use Rattle.std.specs.{Bool.MatchBool, List.All}
+use Rattle.std.proofs.{Common.{subst, arith, length, IsPermutation}, lemmas.List.Sorted.{All-permutation, IsPermutation-trans}}
+use Rattle.std.proofs.lemmas.List.Elements.{All-from_recursion, recursion_from_All}
+use Rattle.std.specs.{Bool.MatchBool, List.{All, AllByRecursion}}
 use Rattle.json.specs.Json.{Json}
 use Rattle.lc_formats.specs.JsonText.{Member, array_with, integer, object_with}
 use Rattle.lc_level.specs.{FaultLines.FaultLineModel, Level.{FileLineModel, SkippedLineModel}}
@@ -13,10 +14,11 @@ use Rattle.lc_tree.specs.ByteOrder.{AreInOrder}
 use Rattle.lc_walk.specs.{ReportLines.{fault_paths, file_paths, skipped_paths}, ReportTotals.{TotalsAddUp, counted_line}, Sums.IsInRange}
 use Rattle.lc_walk.specs.{Sums.plus, Tally.IsTally, TallyRows.AddsUp, declared.{options.ReportLists.ReportLists, report.Report.Report}}
 use Rattle.lc_walk.specs.declared.tally.sums.Sums.{Sums}
+use Rattle.lc_laws.proofs.LinesReadBack.{ShowsFile}
 use Rattle.lc_laws.proofs.{JsonMembers.same_integer, OneOrder.{risen_texts, same_sorted}, OneTally.one_tally, PrintedReport.Parts}
 use Rattle.lc_laws.proofs.PrintedReport.{fault_objects, file_objects, printed_parts, report_members, skipped_objects, sums_members}
 use Rattle.lc_laws.proofs.ReportReadBack.{faults_read_back, files_read_back, skipped_texts_read_back, sums_read_back}
-use Rattle.lc_laws.specs.ReadBack.{FitsFile, FitsTypes, HasNoSkipped, HasSkippedOf, IsReadBack, skipped_text}
+use Rattle.lc_laws.specs.ReadBack.{AreShownFor, FitsFile, FitsTypes, HasNoSkipped, HasSkippedOf, IsReadBack, skipped_text}
 use Rattle.lc_reading.specs.declared.member_name.MemberName.TheVariants as member
 use Rattle.lc_walk.proofs.Classes.{same_classes}
 use Rattle.lc_walk.specs.AllColumns.{all_columns}
@@ -29,7 +31,7 @@ record Printed (ms : List Member) (p : Parts) : Type 0 where
   text : named member.Text ms ≡ object_with (sums_members p.form (codes "text") p.text) ∷ []
   binary : named member.Binary ms ≡ object_with (sums_members p.form (codes "binary") p.binary) ∷ []
   directories : named member.Directories ms ≡ integer p.directories ∷ []
-  files : named member.Files ms ≡ array_with (file_objects p.form (is_some p.form.by.dir) p.files) ∷ []
+  files : named member.Files ms ≡ array_with (file_objects p.form p.attributes p.files) ∷ []
   faults : named member.Faults ms ≡ array_with (fault_objects p.form p.faults) ∷ []
 
 printed_at : (p : Parts) (b : Bool) (n : ℕ) (ls : List SkippedLineModel) → Printed (report_members p b n ls) p
@@ -105,8 +107,9 @@ same_lists : (a b : ReportLists) → a.files ≡ b.files → a.left_out ≡ b.le
 same_lists a b files left_out = λ i. record { files = files i; left_out = left_out i }
 
 module _ (r : Report) (read : Report) (fits : FitsTypes r) (read_fits : FitsTypes read)
-    (order : AreInOrder (skipped_paths r.skipped.items)) (p : Parts) where
-  skipped_back : (b : Bool) → r.lists.left_out ≡ b → IsReportOf (report_members p b r.entries r.skipped.items) read → SkippedReadBack r read
+    (order : AreInOrder (skipped_paths r.skipped.items)) (attributes : List (List ℕ)) (p : Parts) where
+  skipped_back : (b : Bool) → r.lists.left_out ≡ b → IsReportOf attributes (report_members p b r.entries r.skipped.items) read
+      → SkippedReadBack r read
   skipped_back true listed is =
       let ms : List Member = report_members p true r.entries r.skipped.items in
       let has : SkippedListed ms read read.lists.left_out =
@@ -132,6 +135,19 @@ module _ (r : Report) (read : Report) (fits : FitsTypes r) (read_fits : FitsType
         skipped = subst (λ b. MatchBool b (HasSkippedOf r read) (HasNoSkipped read)) (sym listed) has.none;
       }
 
+-- ---- files
+
+files_shown : (attributes : List (List ℕ)) (fs : List FileLineModel) → All FitsFile fs
+    → All (λ (f : FileLineModel). length f.asked ≡ length attributes) fs → All (ShowsFile attributes) fs
+files_shown attributes fs fits states =
+    let S : FileLineModel → Type 0 = λ f. length f.asked ≡ length attributes in
+    All-from_recursion (ShowsFile attributes) fs (both fs (recursion_from_All FitsFile fs fits) (recursion_from_All S fs states))
+  where
+    both : (gs : List FileLineModel) → AllByRecursion FitsFile gs
+        → AllByRecursion (λ (f : FileLineModel). length f.asked ≡ length attributes) gs → AllByRecursion (ShowsFile attributes) gs
+    both [] p q = tt
+    both (g ∷ gs) p q = (record { fits = p.0; states = q.0 }, both gs p.1 q.1)
+
 -- ---- the whole report
 
 -- what is known of a report of a walk that lists its files
@@ -146,29 +162,33 @@ pub record IsWholeReport (r : Report) : Type 0 where
 abbrev KeepsRows : {ms : List Member} → (read : Report) → HasRows ms read → Type 0
 KeepsRows read rows = (read.columns ≡ rows.columns) × AddsUp (map row_in rows.rows) read.rows.items
 
-module _ (options : TableOptions) (r : Report) (rows : List ShownRowModel) (files : List FileLineModel) (read : Report)
-    (whole : IsWholeReport r) (moved : IsPermutation r.files.items files) (fits : FitsTypes r) (read_fits : FitsTypes read) where
+module _ (options : TableOptions) (attributes : List (List ℕ)) (r : Report) (rows : List ShownRowModel) (files : List FileLineModel)
+    (read : Report)
+    (whole : IsWholeReport r) (moved : IsPermutation r.files.items files) (fits : FitsTypes r) (read_fits : FitsTypes read)
+    (are_shown : AreShownFor attributes options.by r) where
   abbrev parts : Parts
-  parts = printed_parts options r rows files
+  parts = printed_parts options attributes r rows files
 
   abbrev members : List Member
   members = report_members parts r.lists.left_out r.entries r.skipped.items
 
-  pub report_read_back : IsReportOf members read → IsReadBack r read
+  pub report_read_back : IsReportOf attributes members read → IsReadBack r read
   report_read_back is =
       let printed : Printed members parts = printed_at parts r.lists.left_out r.entries r.skipped.items in
-      let listed : (read.lists.files ≡ true) × HasOrdered IsFileOf (λ f. f.path) member.Files members read.files.items =
-      files_listed (HasOrdered IsFileOf (λ f. f.path) member.Files members read.files.items) read.lists.files members
-      (array_with (file_objects parts.form (is_some parts.form.by.dir) files)) read.files.items
+      let listed : (read.lists.files ≡ true) × HasOrdered (IsFileOf attributes) (λ f. f.path) member.Files members read.files.items =
+      files_listed (HasOrdered (IsFileOf attributes) (λ f. f.path) member.Files members read.files.items) read.lists.files members
+      (array_with (file_objects parts.form attributes files)) read.files.items
       read.totals.files printed.files is.files in
-      let all_files : All FitsFile files = All-permutation FitsFile r.files.items files moved fits.files in
+      let all_files : All (ShowsFile attributes) files =
+      All-permutation (ShowsFile attributes) r.files.items files moved (files_shown attributes r.files.items fits.files are_shown.states) in
       let files_same : read.files.items ≡ r.files.items =
       same_sorted (λ (f : FileLineModel). f.path) r.files.items read.files.items whole.files
       (IsPermutation-trans r.files.items files read.files.items moved
-      (files_read_back members parts.form (is_some parts.form.by.dir) files read.files.items printed.files all_files read_fits.files
+      (files_read_back members parts.form attributes are_shown.apart are_shown.shown files read.files.items printed.files all_files
+      read_fits.files
       listed.1))
       listed.1.order in
-      let skipped : SkippedReadBack r read = skipped_back r read fits read_fits whole.skipped parts r.lists.left_out refl is in
+      let skipped : SkippedReadBack r read = skipped_back r read fits read_fits whole.skipped attributes parts r.lists.left_out refl is in
       let directories : r.directories < 2 ^ 64 = fits.directories in
       let read_directories : read.directories < 2 ^ 64 = read_fits.directories in record {
         totals = sums_read_back parts.form (codes "total") r.totals read.totals member.Total members printed.total fits.totals

@@ -21,8 +21,8 @@ pub record ListsNoSkipped (r : Report) : Type 0 where
 -- the text of each sheet of a report with these options is the plain table of the report
 abbrev pub PlainTableLaw : Type 0
 PlainTableLaw =
-    (files : Bool) (r : Report) (s : SheetModel) → ListsNoSkipped r → IsSheetOf (plain_options files) r s
-    → tsv_of s ≡ plain_table files r
+    (files : Bool) (attributes : List (List ℕ)) (r : Report) (s : SheetModel) → ListsNoSkipped r
+    → IsSheetOf (plain_options files) attributes r s → tsv_of s ≡ plain_table files r
 
 -- the report of each walk whose options do not request the list of skipped entries does not list them
 abbrev pub UnlistedLaw : (List ℕ → Listings) → (List ℕ → Contents) → Type 0

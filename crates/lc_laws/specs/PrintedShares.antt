@@ -2,7 +2,8 @@
 use Rattle.std.specs.{Prelude.{⊤, ◌≡◌, ◌≤◌, ℕ, List}, List.All}
 use Rattle.lc_formats.specs.{Cells.shown_text, Shares.share_word}
 use Rattle.lc_rows.specs.{Sheets.IsSheetOf, WalkedReports.{IsOfWalk, ListsFilesFor}}
-use Rattle.lc_sheet.specs.{Sheets.{SectionModel, SheetModel}, Values.{ValueModel, missing, summed, blank, word, name, path, number, share}}
+use Rattle.lc_sheet.specs.Sheets.{SectionModel, SheetModel}
+use Rattle.lc_sheet.specs.Values.{ValueModel, missing, summed, blank, word, flag, name, path, number, share}
 use Rattle.lc_sheet.specs.{Values.{bar, difference}, declared.table_options.TableOptions.TableOptions}
 use Rattle.lc_tree.specs.Trees.{Listings, Contents}
 use Rattle.lc_walk.specs.declared.{options.Options.Options, report.Report.Report}
@@ -13,6 +14,7 @@ IsPrintedWithin missing = ⊤
 IsPrintedWithin summed = ⊤
 IsPrintedWithin blank = ⊤
 IsPrintedWithin (word w) = ⊤
+IsPrintedWithin (flag is_set) = ⊤
 IsPrintedWithin (name n) = ⊤
 IsPrintedWithin (path p) = ⊤
 IsPrintedWithin (number n) = ⊤
@@ -32,5 +34,5 @@ pub record PrintsShares (s : SheetModel) : Type 0 where
 -- the shares of each sheet of a walk's report, or of the part of it that meets conditions, are printed as at most 100.0 per cent
 abbrev pub PrintedSharesLaw : (List ℕ → Listings) → (List ℕ → Contents) → Type 0
 PrintedSharesLaw lists gives =
-    (o : Options) (options : TableOptions) (r : Report) (s : SheetModel) → IsOfWalk lists gives o r → ListsFilesFor o options
-    → IsSheetOf options r s → PrintsShares s
+    (o : Options) (options : TableOptions) (attributes : List (List ℕ)) (r : Report) (s : SheetModel) → IsOfWalk lists gives o r
+    → ListsFilesFor o options → IsSheetOf options attributes r s → PrintsShares s

@@ -9,7 +9,8 @@ use lc_tree::Tree;
 
 /// The law that the sheet of a report (its lines to print) in the format `table` has the words, columns and values that
 /// `lc_formats::lines_of_a_part_are_as_wide` requires. In definitions, a name is a list of numbers. The law requires that the numbers in
-/// the names of rows and of skipped entries are bytes, less than 256.
+/// the names and values of rows, in the names of skipped entries and in the headings of attributes are bytes, less than 256. No heading of
+/// an attribute may end in a blank.
 pub fn sheets_of_reports_are_readable()
     ensures { ReadableSheetLaw }
 {}
@@ -20,7 +21,8 @@ pub fn sheets_of_reports_have_records()
 {}
 
 /// The law that each share of a total in a human-readable text is at most 100.0 per cent. This holds for the report of a walk, and for the
-/// part of the report that meets conditions such as `lines>1000`. If rows are by directory, the walk must list its files.
+/// part of the report that meets conditions such as `lines>1000`. If rows are by directory or by attributes, the walk must list its
+/// files.
 pub fn printed_shares_are_at_most_the_whole<T: Tree>(tree: &T)
     ensures { PrintedSharesLaw (T.lists tree.now) (T.gives tree.now) }
 {

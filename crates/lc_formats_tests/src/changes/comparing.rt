@@ -135,7 +135,7 @@ fn columns_of(
         all: false,
     };
     let (old, new) = (no_files(alloc), no_files(alloc));
-    let shown = ShownChanges::of(alloc, &old, &new, &options)?;
+    let shown = ShownChanges::of(alloc, &old, &new, &options, &[])?;
     let sheet = shown.comparison();
     let files = match &sheet.files {
         Some(files) => files.columns().to_vec(alloc)?,

@@ -1,6 +1,7 @@
 //! Test cases of runs that count a tree and print its table, and the checks of these cases.
 
-ghost use Rattle.std.specs.Prelude.{◌≡◌, ◌≤◌, false, is_some};
+ghost use Rattle.std.specs.Prelude.{◌≡◌, ◌≤◌, false};
+ghost use Rattle.lc_sheet.specs.Keys.{are_of_files};
 ghost use Rattle.lc_walk.specs.WalkOptions.{AreWithinLimits};
 
 use lc_board::{Locked, Shared, Words};
@@ -121,7 +122,7 @@ fn options_of<'o>(
 
 /// Returns the options of a table for a report with these lists.
 pub(super) fn listing(lists: ReportLists) -> TableOptions
-    ensures { is_some result.by.dir ≡ false }
+    ensures { are_of_files result.by ≡ false }
 {
     TableOptions {
         files: lists.files,
@@ -137,6 +138,7 @@ pub(super) fn showing_all(table: TableOptions) -> ReportOptions<'static>
         counted: b".",
         table,
         conditions: &[],
+        attributes: &[],
     }
 }
 

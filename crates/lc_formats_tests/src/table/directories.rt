@@ -22,6 +22,7 @@ const BY_DIR: TableOptions = TableOptions {
 const BY_TWO: TableOptions = TableOptions {
     by: Columns {
         dir: Some(2),
+        attributes: 0,
         ext: true,
         ..Columns::NONE
     },

@@ -135,6 +135,7 @@ fn has_rows(alloc: Global, case: &ShapeCase) -> Result<bool, AllocError> {
     let (_, [ext, text, eol], sort, rows) = *case;
     let by = Columns {
         dir: None,
+        attributes: 0,
         ext,
         text,
         eol,

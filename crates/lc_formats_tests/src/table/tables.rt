@@ -231,8 +231,8 @@ fn is_made_of(text: &[u8], (header, rows, below): Parts<'_>) -> bool {
     rest.strip_prefix(rows) == Some(below)
 }
 
-/// Returns whether the table of a report with these options consists of these parts, one after the other. Rows by directory need the
-/// report's files.
+/// Returns whether the table of a report with these options consists of these parts, one after the other. Rows by directories or attributes
+/// need the report's files.
 pub(super) fn has_parts(
     alloc: Global,
     report: Report,
@@ -240,10 +240,10 @@ pub(super) fn has_parts(
     parts: Parts<'_>,
 ) -> Result<bool, AllocError> {
     let mut report = report;
-    if options.by.dir.is_some() && !report.lists.files {
+    if options.by.are_of_files() && !report.lists.files {
         return Ok(false);
     }
-    let text = report_text(alloc, b".", &mut report, options)?;
+    let text = report_text(alloc, b".", &mut report, options, &[])?;
     Ok(is_made_of(&text, parts))
 }
 
@@ -335,7 +335,7 @@ fn compare_writes<R: AllocGlobal + Abort>(
 #[test]
 fn a_table_stops_at_every_place(rt: HostRuntime) -> Result<(), Fail> {
     let mut report = report_of(rt.alloc(), &TOP_UNREAD)?;
-    let text = report_text(rt.alloc(), b".", &mut report, TSV)?;
+    let text = report_text(rt.alloc(), b".", &mut report, TSV, &[])?;
     for writer in WRITERS {
         compare_writes(&rt, &TOP_UNREAD, &text, *writer)?;
     }

@@ -3,7 +3,8 @@ use Rattle.lc_formats.specs.Cells.{cells_of, heading_cells}
 use Rattle.lc_formats.proofs.cells.push_headings.Given as goal
 
 abbrev pub invariant-columns : goal.invariant-columns
-invariant-columns l = cells_of l.cells.items ++ heading_cells l.rest ≡ cells_of l.initial.cells.items ++ heading_cells l.columns
+invariant-columns l =
+    cells_of l.cells.items ++ heading_cells l.attributes l.rest ≡ cells_of l.initial.cells.items ++ heading_cells l.attributes l.columns
 
 abbrev pub decreases-columns : goal.decreases-columns
 decreases-columns l = length l.rest

@@ -7,4 +7,5 @@ pub returns : goal.returns
 returns g c =
     let columns = c.args.columns.now in
     rw (c.if-compares.false, c.in_ok-end_object.ensures, c.in_ok-write_columns.ensures, c.in_ok-begin_object.ensures)
-    (object_appended c.args.text.now (line_members columns (line_of (g.L.Lines.value_in c.args.form) columns c.args.line.now)))
+    (object_appended c.args.text.now
+    (line_members c.args.attributes.now columns (line_of (g.L.Lines.value_in c.args.form) columns c.args.line.now)))

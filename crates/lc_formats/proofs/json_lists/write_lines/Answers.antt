@@ -9,7 +9,8 @@ use Rattle.lc_formats.proofs.json_lists.write_lines.Goals as goal
 pub loop-line-preserved : goal.loop-line-preserved
 loop-line-preserved g c =
     let columns = c.args.columns.now in
-    one_written (λ x. json_tokens (object_of c.args.compares columns (line_of (g.L.Lines.value_in c.args.form) columns x)))
+    let line = line_of (g.L.Lines.value_in c.args.form) columns in
+    one_written (λ x. json_tokens (object_of c.args.compares c.args.attributes.now columns (line x)))
     c.args.lines.now c.loop-line.line-index c.line-item.result c.args.text.now c.loop-line.text c.write_line.new.text
     c.loop-line-test.true c.line-item.is c.loop-line.invariant c.in_ok-write_line.ensures
 
@@ -17,7 +18,7 @@ pub returns : goal.returns
 returns g c =
     let columns = c.args.columns.now in
     let line = line_of (g.L.Lines.value_in c.args.form) columns in
-    let own : List ValueModel → List Token = λ values. json_tokens (object_of c.args.compares columns values) in
+    let own : List ValueModel → List Token = λ values. json_tokens (object_of c.args.compares c.args.attributes.now columns values) in
     c.loop-line.invariant
     ∙ ap (λ xs. c.args.text.now ++ flat_map (λ x. own (line x)) xs)
     (take_all c.loop-line.line-index c.args.lines.now c.loop-line-test.false)

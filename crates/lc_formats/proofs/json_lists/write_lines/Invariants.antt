@@ -9,4 +9,5 @@ abbrev pub invariant-loop-line : goal.invariant-loop-line
 invariant-loop-line g l =
     l.text
     ≡ l.initial.text
-    ++ flat_map (λ x. json_tokens (object_of l.compares l.columns (line_of (g.L.Lines.value_in l.form) l.columns x))) (take l.line-index l.lines)
+    ++ flat_map (λ x. json_tokens (object_of l.compares l.attributes l.columns (line_of (g.L.Lines.value_in l.form) l.columns x)))
+    (take l.line-index l.lines)

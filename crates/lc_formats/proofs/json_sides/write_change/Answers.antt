@@ -7,6 +7,7 @@ use Rattle.lc_formats.proofs.json_sides.write_change.Goals as goal
 pub returns : goal.returns
 returns g c =
     let columns = c.args.columns.now in
+    let names = c.args.attributes.now in
     let values = line_of (g.L.Lines.value_in c.args.form) columns c.args.line.now in
     rw (
       c.in_ok-end_object.ensures,
@@ -17,5 +18,5 @@ returns g c =
       c.in_ok-write_part.ensures,
       c.in_ok-begin_object.ensures,
     )
-    (change_appended c.args.text.now (part_members Own columns values) (codes "old") (codes "new") (side_value Old columns values)
-    (side_value New columns values))
+    (change_appended c.args.text.now (part_members names Own columns values) (codes "old") (codes "new")
+    (side_value names Old columns values) (side_value names New columns values))

@@ -9,6 +9,7 @@ columns-preserved g c =
     let columns = c.args.columns.now in
     let value = g.L.Lines.value_in c.args.form in
     part_step c.columns.text c.write_member.new.text
-    (c.args.text.now ++ members_tokens_of (part_members c.args.part columns (line_of value columns c.args.line.now))) c.args.part
-    c.in-Some.column.now c.in-Some.others.now c.columns.rest.now (value c.args.line.now) c.in-Some.ensures.cases.0 c.columns.invariant
+    (c.args.text.now ++ members_tokens_of (part_members c.args.attributes.now c.args.part columns (line_of value columns c.args.line.now)))
+    c.args.attributes.now c.args.part c.in-Some.column.now c.in-Some.others.now c.columns.rest.now (value c.args.line.now)
+    c.in-Some.ensures.cases.0 c.columns.invariant
     c.in_ok-write_member.ensures

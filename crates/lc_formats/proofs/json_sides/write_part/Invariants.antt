@@ -5,8 +5,9 @@ use Rattle.lc_formats.proofs.json_sides.write_part.Given as goal
 
 abbrev pub invariant-columns : goal.invariant-columns
 invariant-columns g l =
-    l.text ++ members_tokens_of (part_members l.part l.rest (line_of (g.L.Lines.value_in l.form) l.rest l.line))
-    ≡ l.initial.text ++ members_tokens_of (part_members l.part l.columns (line_of (g.L.Lines.value_in l.form) l.columns l.line))
+    l.text ++ members_tokens_of (part_members l.attributes l.part l.rest (line_of (g.L.Lines.value_in l.form) l.rest l.line))
+    ≡ l.initial.text
+    ++ members_tokens_of (part_members l.attributes l.part l.columns (line_of (g.L.Lines.value_in l.form) l.columns l.line))
 
 abbrev pub decreases-columns : goal.decreases-columns
 decreases-columns g l = length l.rest

@@ -1,7 +1,7 @@
 use Rattle.std.proofs.{Common.{List, ◌++◌, get_or, take_all, ap, ◌∙◌}, lemmas.List.get_or_default}
 use Rattle.std.specs.List.{flat_map}
 use Rattle.json.specs.Token.{Token}
-use Rattle.lc_sheet.specs.declared.column.Column.{Column, TheVariants.Key}
+use Rattle.lc_sheet.specs.{ColumnWords.column_word, declared.column.Column.{Column, TheVariants.Key}}
 use Rattle.lc_sheet.specs.declared.key.Key.TheVariants.{Dir}
 use Rattle.lc_formats.specs.{JsonLines.value_members, JsonTokens.members_tokens_of}
 use Rattle.lc_formats.proofs.{Listed.one_written, Tokens.line_tokens}
@@ -12,15 +12,16 @@ loop-column-preserved g c =
     let columns = c.args.columns.now in
     let i = c.loop-column.column-index in
     let within = c.loop-column-test.true in
-    one_written (λ (x : Column). members_tokens_of (value_members x (g.L.Lines.value_in c.args.form c.args.line.now x)))
+    let value = g.L.Lines.value_in c.args.form c.args.line.now in
+    one_written (λ (x : Column). members_tokens_of (value_members (column_word c.args.attributes.now x) (value x)))
     columns i (get_or columns i (Key Dir)) c.args.text.now c.loop-column.text c.write_column.new.text
     within (get_or_default columns i (Key Dir) (get_or columns i (Key Dir)) within) c.loop-column.invariant c.in_ok-write_column.ensures
 
 pub returns : goal.returns
 returns g c =
     let value = g.L.Lines.value_in c.args.form c.args.line.now in
-    let own : Column → List Token = λ x. members_tokens_of (value_members x (value x)) in
+    let own : Column → List Token = λ x. members_tokens_of (value_members (column_word c.args.attributes.now x) (value x)) in
     c.loop-column.invariant
     ∙ ap (λ (cs : List Column). c.args.text.now ++ flat_map own cs)
     (take_all c.loop-column.column-index c.args.columns.now c.loop-column-test.false)
-    ∙ ap (λ (ts : List Token). c.args.text.now ++ ts) (line_tokens value c.args.columns.now)
+    ∙ ap (λ (ts : List Token). c.args.text.now ++ ts) (line_tokens c.args.attributes.now value c.args.columns.now)

@@ -7,7 +7,7 @@ use Rattle.lc_formats.proofs.section_lines.push_listing.Goals as goal
 pub returns : goal.returns
 returns g c =
     let section = c.args.section.now in
-    let headings = heading_cells section.columns in
+    let headings = heading_cells section.attributes section.columns in
     let lines = section_cells section in
     let made : List ℕ → List ℕ = λ ws. listing_in (widened ws (headings ∷ lines)) headings lines in
     appended_same c.push_some.result (string_bytes c.args.text.now) (string_bytes c.push_some.new.text)

@@ -8,4 +8,5 @@ abbrev pub invariant-loop-line : goal.invariant-loop-line
 invariant-loop-line g l =
     l.text.items
     ≡ l.initial.text.items
-    ++ flat_map (λ line. values_line (option_map (λ t. t.now) l.tag) (line_of (g.L.Lines.value_in l.form) l.columns line)) (take l.line-index l.lines)
+    ++ flat_map (λ line. values_line (option_map (λ t. t.now) l.tag) (line_of (g.L.Lines.value_in l.form) l.columns line))
+    (take l.line-index l.lines)

@@ -16,6 +16,7 @@ returns g c =
       c.in_ok-push_section.ensures,
       c.in_ok-push_header.ensures,
       c.columns.ensures,
+      c.attributes.ensures,
       c.new-text.ensures.items,
     )
     (ap tsv_of c.sheet.view_is)
