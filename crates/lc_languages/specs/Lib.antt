@@ -1,0 +1,2 @@
+pub mod InLanguages
+pub mod Languages
