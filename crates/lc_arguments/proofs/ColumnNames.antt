@@ -1,33 +1,101 @@
 -- Names of columns among the words.
-use Rattle.std.proofs.Common.{◌≡◌, ◌∙◌, ◌+◌, ◌≤◌, ℕ, suc, Bool, true, false, cond, ◌&&◌, List, [], ◌∷◌, length, filter, Option}
-use Rattle.std.proofs.{Common.{Some, None, is_some, unwrap_or, IfSome, refl, ap, sym, arith}, lemmas.Slice.Eq.bytes_eq-Decides}
-use Rattle.std.specs.{Borrow.Bor, List.list_all, Str.bytes_eq}
+use Rattle.std.proofs.Common.{◌≡◌, ◌∙◌, ◌+◌, ◌≤◌, ◌<◌, ◌⊎◌, inl, inr, ℕ, suc, nat_lt, max, min, Bool, true, false, cond, ◌&&◌, ◌||◌}
+use Rattle.std.proofs.Common.{List, [], ◌∷◌, length, filter, Option, Some, None, is_some, unwrap_or, IfSome, refl, ap, sym, subst, arith}
+use Rattle.std.proofs.lemmas.{Bool.Decides.nat_tests, Slice.Eq.bytes_eq-Decides}
+use Rattle.std.specs.{Bool.MatchBool, Borrow.Bor, List.list_all, Str.bytes_eq}
 use Rattle.lc_sheet.specs.declared.table_options.Columns.{Columns}
-use Rattle.lc_sheet.specs.{Keys.{has_key, key_name, with_key}, declared.key.Key.{Key, TheVariants.{Dir, Ext, Text, Eol}}}
-use Rattle.lc_arguments.specs.{Options.max_depth, TableWords.{AreColumnsBy, AreNamesOf, IsColumnsText, how_often, is_key_name, once_if}}
+use Rattle.lc_sheet.specs.{Keys.{has_key, key_name, with_key}, declared.key.Key.{Key, TheVariants.{Dir, Attribute, Ext, Text, Eol}}}
+use Rattle.lc_sheet.specs.AttributeColumns.{language_name}
+use Rattle.lc_arguments.specs.{AttributeWords.{attribute_named, how_often, names_attribute, names_column}, Options.max_depth}
+use Rattle.lc_arguments.specs.TableWords.{AreColumnsBy, AreNamesOf, IsColumnsText}
+use Rattle.lc_arguments.specs.TableWords.{IsKeyAfter, IsNoKeyAfter, is_fixed, is_key_name, max_attributes, max_columns, once_if}
 
 -- the bytes that are left, and one for the name before their end
 abbrev pub left_over : Option (Bor (List ℕ)) → ℕ
 left_over None = 0
 left_over (Some rest) = suc (length rest.now)
 
+abbrev is_column_name : List ℕ → Bool
+is_column_name name = names_column name || is_key_name name
+
 -- columns with the names that are left name what all names do
 pub record StillNames (depth : ℕ) (c : Columns) (left all : List (List ℕ)) : Type 0 where
-  pub each : (k : Key) → once_if (has_key c k) + how_often (key_name k) left ≡ how_often (key_name k) all
+  pub each : (k : Key) → is_fixed k ≡ true → once_if (has_key c k) + how_often (key_name [] k) left ≡ how_often (key_name [] k) all
   pub cut : IfSome c.dir (λ segments. segments ≡ depth)
-  pub others : list_all is_key_name left ≡ list_all is_key_name all
+  pub attributes : c.attributes + length (filter names_column left) ≡ length (filter names_column all)
+  pub few : c.attributes ≤ max_columns all
+  pub once : (name : List ℕ) → names_column name ≡ true
+      → (how_often name all ≡ how_often name left) ⊎ ((how_often name all ≡ 1) × (how_often name left ≡ 0))
+  pub others : list_all is_column_name left ≡ list_all is_column_name all
 
 once_small : (b : Bool) → once_if b ≤ 1
 once_small true = omega arith
 once_small false = omega arith
 
--- a name more
-how_often_next : (name n : List ℕ) (ns : List (List ℕ)) → how_often name (n ∷ ns) ≡ once_if (bytes_eq name n) + how_often name ns
-how_often_next name n ns = go (bytes_eq name n)
+-- a name more, of which a test holds or not
+next : (p : List ℕ → Bool) (n : List ℕ) (ns : List (List ℕ)) → length (filter p (n ∷ ns)) ≡ once_if (p n) + length (filter p ns)
+next p n ns = go (p n)
   where
-    go : (b : Bool) → length (cond b (n ∷ filter (bytes_eq name) ns) (filter (bytes_eq name) ns)) ≡ once_if b + how_often name ns
+    go : (b : Bool) → length (cond b (n ∷ filter p ns) (filter p ns)) ≡ once_if b + length (filter p ns)
     go true = omega arith
     go false = omega arith
+
+how_often_next : (name n : List ℕ) (ns : List (List ℕ)) → how_often name (n ∷ ns) ≡ once_if (bytes_eq name n) + how_often name ns
+how_often_next name = next (bytes_eq name)
+
+-- a column is that of languages or an attribute's
+one_kind : (n : List ℕ) → once_if (names_column n) ≡ once_if (names_attribute n) + once_if (bytes_eq language_name n)
+one_kind n = go (bytes_eq language_name n) refl (bytes_eq n language_name) refl
+  where
+    go : (b : Bool) → bytes_eq language_name n ≡ b → (c : Bool) → bytes_eq n language_name ≡ c
+        → once_if (names_column n) ≡ once_if (names_attribute n) + once_if (bytes_eq language_name n)
+    go true e c f =
+        subst (λ m. once_if (names_column m) ≡ once_if (names_attribute m) + once_if (bytes_eq language_name m))
+        ((bytes_eq-Decides language_name n).0 e) refl
+    go false e true f =
+        let same = (bytes_eq-Decides language_name n).1 (sym ((bytes_eq-Decides n language_name).0 f)) in absurd (cc)
+    go false e false f =
+        omega (arith, ap (λ b. once_if (is_some (cond b (Some language_name) (attribute_named n)))) f, ap once_if e)
+
+columns_in : (names : List (List ℕ))
+    → length (filter names_column names) ≡ length (filter names_attribute names) + how_often language_name names
+columns_in [] = refl
+columns_in (n ∷ ns) =
+    let attributes = next names_attribute n ns in
+    omega (arith, columns_in ns, next names_column n ns, attributes, how_often_next language_name n ns, one_kind n)
+
+-- of which as many are allowed, and one more if that of languages is among them
+most_in : (names : List (List ℕ)) → max_columns names ≡ max_attributes + min 1 (how_often language_name names)
+most_in names = go (how_often language_name names) (nat_lt 0 (how_often language_name names)) refl
+  where
+    go : (m : ℕ) (b : Bool) → nat_lt 0 m ≡ b → max_attributes + length (cond b (language_name ∷ []) []) ≡ max_attributes + min 1 m
+    go m true e = grind (arith, nat_tests, e)
+    go m false e = grind (arith, nat_tests, e)
+
+here_once : (n : List ℕ) → once_if (bytes_eq n n) ≡ 1
+here_once n = ap once_if ((bytes_eq-Decides n n).1 refl)
+
+-- a name that is an attribute's differs from one that is not
+apart : (name n : List ℕ) → names_column name ≡ true → names_column n ≡ false → once_if (bytes_eq name n) ≡ 0
+apart name n is other = go (bytes_eq name n) refl
+  where
+    go : (b : Bool) → bytes_eq name n ≡ b → once_if b ≡ 0
+    go true e = let same = ap names_column ((bytes_eq-Decides name n).0 e) in absurd (cc)
+    go false e = refl
+
+apart_too : (name n : List ℕ) → names_column name ≡ false → names_column n ≡ true → once_if (bytes_eq name n) ≡ 0
+apart_too name n other is = go (bytes_eq name n) refl
+  where
+    go : (b : Bool) → bytes_eq name n ≡ b → once_if b ≡ 0
+    go true e = let same = ap names_column ((bytes_eq-Decides name n).0 e) in absurd (cc)
+    go false e = refl
+
+fixed_apart : (k : Key) → is_fixed k ≡ true → names_column (key_name [] k) ≡ false
+fixed_apart Dir fixed = refl
+fixed_apart (Attribute place) fixed = absurd (cc)
+fixed_apart Ext fixed = refl
+fixed_apart Text fixed = refl
+fixed_apart Eol fixed = refl
 
 -- a key more
 none_more : (n : ℕ) → n ≡ 0 + n
@@ -37,53 +105,170 @@ one_for : (b : Bool) → b ≡ false → 1 ≡ 1 + once_if b
 one_for true unset = absurd (cc)
 one_for false unset = omega arith
 
-one_more : (k j : Key) (depth : ℕ) (c : Columns) → has_key c k ≡ false
-    → once_if (has_key (with_key k depth c) j) ≡ once_if (bytes_eq (key_name j) (key_name k)) + once_if (has_key c j)
-one_more Dir Dir depth c unset = one_for (is_some c.dir) unset
-one_more Dir j depth c unset = none_more _
-one_more Ext Ext depth c unset = one_for c.ext unset
-one_more Ext j depth c unset = none_more _
-one_more Text Text depth c unset = one_for c.text unset
-one_more Text j depth c unset = none_more _
-one_more Eol Eol depth c unset = one_for c.eol unset
-one_more Eol j depth c unset = none_more _
+one_more : (k j : Key) (depth : ℕ) (c : Columns) → is_fixed k ≡ true → is_fixed j ≡ true → has_key c k ≡ false
+    → once_if (has_key (with_key k depth c) j) ≡ once_if (bytes_eq (key_name [] j) (key_name [] k)) + once_if (has_key c j)
+one_more (Attribute place) j depth c fixed own unset = absurd (cc)
+one_more k (Attribute place) depth c fixed own unset = absurd (cc)
+one_more Dir Dir depth c fixed own unset = one_for (is_some c.dir) unset
+one_more Dir j depth c fixed own unset = none_more _
+one_more Ext Ext depth c fixed own unset = one_for c.ext unset
+one_more Ext j depth c fixed own unset = none_more _
+one_more Text Text depth c fixed own unset = one_for c.text unset
+one_more Text j depth c fixed own unset = none_more _
+one_more Eol Eol depth c fixed own unset = one_for c.eol unset
+one_more Eol j depth c fixed own unset = none_more _
 
 cut_with : (k : Key) (depth : ℕ) (c : Columns) → IfSome c.dir (λ segments. segments ≡ depth)
     → IfSome (with_key k depth c).dir (λ segments. segments ≡ depth)
 cut_with Dir depth c cut = refl
 cut_with k depth c cut = cut
 
-names_itself : (k : Key) → is_key_name (key_name k) ≡ true
-names_itself Dir = refl
-names_itself Ext = refl
-names_itself Text = refl
-names_itself Eol = refl
+same_attributes : (k : Key) (depth : ℕ) (c : Columns) → is_fixed k ≡ true → (with_key k depth c).attributes ≡ c.attributes
+same_attributes Dir depth c fixed = refl
+same_attributes (Attribute place) depth c fixed = absurd (cc)
+same_attributes Ext depth c fixed = refl
+same_attributes Text depth c fixed = refl
+same_attributes Eol depth c fixed = refl
+
+same_fixed : (j : Key) (place depth : ℕ) (c : Columns) → is_fixed j ≡ true → has_key (with_key (Attribute place) depth c) j ≡ has_key c j
+same_fixed Dir place depth c fixed = refl
+same_fixed (Attribute p) place depth c fixed = absurd (cc)
+same_fixed Ext place depth c fixed = refl
+same_fixed Text place depth c fixed = refl
+same_fixed Eol place depth c fixed = refl
+
+names_itself : (k : Key) → is_fixed k ≡ true → is_key_name (key_name [] k) ≡ true
+names_itself Dir fixed = refl
+names_itself (Attribute place) fixed = absurd (cc)
+names_itself Ext fixed = refl
+names_itself Text fixed = refl
+names_itself Eol fixed = refl
 
 -- with a key that they did not have
-pub joins : (depth : ℕ) (c : Columns) (k : Key) (left all : List (List ℕ)) → has_key c k ≡ false
-    → StillNames depth c (key_name k ∷ left) all → StillNames depth (with_key k depth c) left all
-joins depth c k left all unset g = record {
-  each = λ j. omega (arith, g.each j, how_often_next (key_name j) (key_name k) left, one_more k j depth c unset);
-  cut = cut_with k depth c g.cut;
-  others = sym (ap (λ b. b && list_all is_key_name left) (names_itself k)) ∙ g.others;
+fixed_joins : (depth : ℕ) (c : Columns) (k : Key) (left all : List (List ℕ)) → is_fixed k ≡ true → has_key c k ≡ false
+    → StillNames depth c (key_name [] k ∷ left) all → StillNames depth (with_key k depth c) left all
+fixed_joins depth c k left all fixed unset g =
+    let other = fixed_apart k fixed in record {
+      each = λ j own. omega (
+        arith,
+        g.each j own,
+        how_often_next (key_name [] j) (key_name [] k) left,
+        one_more k j depth c fixed own unset,
+      );
+      cut = cut_with k depth c g.cut;
+      attributes = omega (arith, g.attributes, next names_column (key_name [] k) left, ap once_if other, same_attributes k depth c fixed);
+      few = omega (arith, g.few, same_attributes k depth c fixed);
+      once = λ name is. same_once name (apart name (key_name [] k) is other) (g.once name is);
+      others = sym (ap (λ b. (names_column (key_name [] k) || b) && list_all is_column_name left) (names_itself k fixed)
+          ∙ ap (λ b. (b || true) && list_all is_column_name left) other) ∙ g.others;
+    }
+  where
+    same_once : (name : List ℕ) → once_if (bytes_eq name (key_name [] k)) ≡ 0
+        → (how_often name all ≡ how_often name (key_name [] k ∷ left))
+        ⊎ ((how_often name all ≡ 1) × (how_often name (key_name [] k ∷ left) ≡ 0))
+        → (how_often name all ≡ how_often name left) ⊎ ((how_often name all ≡ 1) × (how_often name left ≡ 0))
+    same_once name none (inl same) = inl (omega (arith, same, none, how_often_next name (key_name [] k) left))
+    same_once name none (inr both) = inr (both.0, omega (arith, both.1, none, how_often_next name (key_name [] k) left))
+
+grown : (a : ℕ) (names : List (List ℕ)) → a < max_columns names → max a (min 255 (a + 1)) ≡ a + 1
+grown a names few = omega (arith, few, most_in names)
+
+attribute_joins : (depth : ℕ) (c : Columns) (n : List ℕ) (left all : List (List ℕ)) → names_column n ≡ true
+    → c.attributes < max_columns all → how_often n left ≡ 0 → StillNames depth c (n ∷ left) all
+    → StillNames depth (with_key (Attribute c.attributes) depth c) left all
+attribute_joins depth c n left all is few none g = record {
+  each = λ j own. omega (
+    arith,
+    g.each j own,
+    how_often_next (key_name [] j) n left,
+    apart_too (key_name [] j) n (fixed_apart j own) is,
+    ap once_if (same_fixed j c.attributes depth c own),
+  );
+  cut = g.cut;
+  attributes = omega (arith, g.attributes, next names_column n left, ap once_if is, grown c.attributes all few);
+  few = omega (arith, grown c.attributes all few);
+  once = λ name own. step name (bytes_eq name n) refl (g.once name own);
+  others = sym (ap (λ b. (b || is_key_name n) && list_all is_column_name left) is) ∙ g.others;
 }
+  where
+    step : (name : List ℕ) (b : Bool) → bytes_eq name n ≡ b
+        → (how_often name all ≡ how_often name (n ∷ left)) ⊎ ((how_often name all ≡ 1) × (how_often name (n ∷ left) ≡ 0))
+        → (how_often name all ≡ how_often name left) ⊎ ((how_often name all ≡ 1) × (how_often name left ≡ 0))
+    step name true e (inl same) =
+        let last : how_often name left ≡ 0 = ap (λ m. how_often m left) ((bytes_eq-Decides name n).0 e) ∙ none in
+        inr (omega (arith, same, how_often_next name n left, ap once_if e, last), last)
+    step name true e (inr both) = absurd (omega (arith, both.1, how_often_next name n left, ap once_if e))
+    step name false e (inl same) = inl (omega (arith, same, how_often_next name n left, ap once_if e))
+    step name false e (inr both) = inr (both.0, omega (arith, both.1, how_often_next name n left, ap once_if e))
+
+pub joins : (depth : ℕ) (c : Columns) (k : Key) (n : List ℕ) (left all : List (List ℕ)) → IsKeyAfter (max_columns all) c n left k
+    → StillNames depth c (n ∷ left) all → StillNames depth (with_key k depth c) left all
+joins depth c k n left all after g = go (names_column n) refl after
+  where
+    go : (b : Bool) → names_column n ≡ b
+        → MatchBool b ((k ≡ Attribute c.attributes) × (c.attributes < max_columns all) × (how_often n left ≡ 0))
+        ((key_name [] k ≡ n) × (is_fixed k ≡ true) × (has_key c k ≡ false))
+        → StillNames depth (with_key k depth c) left all
+    go true e is =
+        subst (λ j. StillNames depth (with_key j depth c) left all) (sym is.0) (attribute_joins depth c n left all e is.1 is.2 g)
+    go false e is =
+        fixed_joins depth c k left all is.1 is.2 (subst (λ m. StillNames depth c (m ∷ left) all) (sym is.0) g)
+
+refuses_twice : (depth : ℕ) (c d : Columns) (k : Key) (left all : List (List ℕ)) → is_fixed k ≡ true
+    → StillNames depth c (key_name [] k ∷ left) all → has_key c k ≡ true → AreNamesOf all depth d → ⊥
+refuses_twice depth c d k left all fixed g set are =
+    absurd (omega (
+      arith,
+      ap once_if set,
+      here_once (key_name [] k),
+      g.each k fixed,
+      how_often_next (key_name [] k) (key_name [] k) left,
+      are.each k fixed,
+      once_small (has_key d k),
+    ))
+
+refuses_repeated : (depth : ℕ) (c d : Columns) (n : List ℕ) (left all : List (List ℕ)) → names_column n ≡ true → 1 ≤ how_often n left
+    → StillNames depth c (n ∷ left) all → AreNamesOf all depth d → ⊥
+refuses_repeated depth c d n left all is more g are = go (g.once n is)
+  where
+    go : (how_often n all ≡ how_often n (n ∷ left)) ⊎ ((how_often n all ≡ 1) × (how_often n (n ∷ left) ≡ 0)) → ⊥
+    go (inl same) = absurd (omega (arith, same, more, here_once n, how_often_next n n left, are.once n is))
+    go (inr both) = absurd (omega (arith, both.1, here_once n, how_often_next n n left))
 
 -- a name that is left and no key's, or that of a key which they have, ends it
-pub refuses_other : (depth : ℕ) (c d : Columns) (n : List ℕ) (left all : List (List ℕ)) → StillNames depth c (n ∷ left) all
-    → is_key_name n ≡ false → AreNamesOf all depth d → ⊥
-refuses_other depth c d n left all g other are =
-    let bad : false ≡ true = sym (ap (λ b. b && list_all is_key_name left) other) ∙ g.others ∙ are.no_others in absurd (cc)
-
-pub refuses_twice : (depth : ℕ) (c d : Columns) (k : Key) (left all : List (List ℕ)) → StillNames depth c (key_name k ∷ left) all
-    → has_key c k ≡ true → AreNamesOf all depth d → ⊥
-refuses_twice depth c d k left all g set are =
-    let one : once_if (has_key c k) ≡ 1 = ap once_if set in
-    let here : once_if (bytes_eq (key_name k) (key_name k)) ≡ 1 = ap once_if ((bytes_eq-Decides (key_name k) (key_name k)).1 refl) in
-    absurd (omega (arith, one, here, g.each k, how_often_next (key_name k) (key_name k) left, are.each k, once_small (has_key d k)))
+pub refuses : (depth : ℕ) (c d : Columns) (n : List ℕ) (left all : List (List ℕ)) → IsNoKeyAfter (max_columns all) c n left
+    → StillNames depth c (n ∷ left) all → AreNamesOf all depth d → ⊥
+refuses depth c d n left all none g are = go (names_column n) refl none
+  where
+    go : (b : Bool) → names_column n ≡ b
+        → MatchBool b ((max_columns all ≤ c.attributes) ⊎ (1 ≤ how_often n left))
+        ((is_key_name n ≡ false) ⊎ ((k : Key) × (key_name [] k ≡ n) × (is_fixed k ≡ true) × (has_key c k ≡ true))) → ⊥
+    go true e (inl many) =
+        let room : max_columns all < length (filter names_column all) =
+        omega (arith, many, g.attributes, next names_column n left, ap once_if e) in
+        absurd (omega (arith, room, are.few, are.once language_name refl, columns_in all, most_in all))
+    go true e (inr more) = refuses_repeated depth c d n left all e more g are
+    go false e (inl other) =
+        let bad : false ≡ true = sym (ap (λ b. (b || is_key_name n) && list_all is_column_name left) e
+        ∙ ap (λ b. b && list_all is_column_name left) other) ∙ g.others ∙ are.no_others in absurd (cc)
+    go false e (inr k) =
+        refuses_twice depth c d k.0 left all k.2 (subst (λ m. StillNames depth c (m ∷ left) all) (sym k.1) g) k.3 are
 
 -- where no name is left, they are named
 pub all_named : (depth : ℕ) (c : Columns) (all : List (List ℕ)) → StillNames depth c [] all → AreNamesOf all depth c
-all_named depth c all g = record { each = λ k. omega (arith, g.each k); cut = g.cut; no_others = sym g.others }
+all_named depth c all g = record {
+  each = λ k fixed. omega (arith, g.each k fixed);
+  cut = g.cut;
+  attributes = omega (arith, g.attributes);
+  few = omega (arith, g.attributes, g.few, columns_in all, most_in all);
+  once = λ name is. small name (g.once name is);
+  no_others = sym g.others;
+}
+  where
+    small : (name : List ℕ) → (how_often name all ≡ how_often name []) ⊎ ((how_often name all ≡ 1) × (how_often name [] ≡ 0))
+        → how_often name all ≤ 1
+    small name (inl none) = omega (arith, none)
+    small name (inr both) = omega (arith, both.0)
 
 -- a depth asks for directories, which the names of columns without them do not name
 pub undirected : (text : List ℕ) (depth : Option ℕ) (c : Columns) → IsColumnsText text (unwrap_or depth 1) c → is_some depth ≡ true
@@ -93,7 +278,7 @@ undirected text None c are some none (Some d) by = absurd (cc)
 undirected text (Some n) c are some none (Some d) by =
     let one : once_if (is_some d.dir) ≡ 1 = ap once_if by.cuts in
     let zero : once_if (is_some c.dir) ≡ 0 = ap once_if none in
-    absurd (omega (arith, by.named.each Dir, are.each Dir, one, zero))
+    absurd (omega (arith, by.named.each Dir refl, are.each Dir refl, one, zero))
 
 -- directories are cut to a number of segments that is within the limit of what was given, or one
 pub depth_within : (depth : Option ℕ) (columns : Option Columns) (by : Option (List ℕ)) → AreColumnsBy by depth columns

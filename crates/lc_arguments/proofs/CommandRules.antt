@@ -14,7 +14,7 @@ use Rattle.lc_arguments.specs.{CountArgs.{AreCommandsOf, IsArgOf, IsBare, IsComm
 use Rattle.lc_arguments.specs.Options.{is_of, max_depth, max_dirs, max_threads, max_top, option_model, options}
 use Rattle.lc_arguments.specs.ReadNumbers.{AreCutsReadWithin, AreReadBy, AreReadWithin, ReadsWithin, parser_named}
 use Rattle.lc_arguments.specs.declared.option_row.OptionRow.{OptionRow}
-use Rattle.lc_arguments.specs.declared.option_row.Subcommand.{Subcommand, TheVariants.{Count, Explain, Check, Sum, Diff}}
+use Rattle.lc_arguments.specs.declared.option_row.Subcommand.{Subcommand, TheVariants.{Count, Explain, Check, Sum, Diff, Languages}}
 use Rattle.lc_arguments.proofs.ReadValues.{read_in_chain}
 
 -- the rules of one more row
@@ -236,6 +236,7 @@ apart Explain = refl
 apart Check = refl
 apart Sum = refl
 apart Diff = refl
+apart Languages = refl
 
 module _ (rules : List Rule) (found : Found) (read : AreReadBy rules found) where
   -- a number of the name has a limit by the rules

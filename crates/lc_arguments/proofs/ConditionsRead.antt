@@ -8,10 +8,12 @@ use Rattle.lc_arguments.specs.ConditionWords.{condition_of, conditions_of}
 abbrev bytes_of : Bor (List ℕ) → List ℕ
 bytes_of text = text.now
 
-pub one_text_more : (texts : List (Bor (List ℕ))) (i : ℕ) (d : Bor (List ℕ)) (old new : List ConditionModel) → i < length texts
-    → old ≡ conditions_of (map (λ text. text.now) (take i texts)) → new ≡ old ++ conditions_of ((get_or texts i d).now ∷ [])
-    → new ≡ conditions_of (map (λ text. text.now) (take (i + 1) texts))
-one_text_more texts i d old new low is adds =
-    adds ∙ (ap (λ cs. cs ++ conditions_of ((get_or texts i d).now ∷ [])) is
-    ∙ (sym (filter_map-append condition_of (map bytes_of (take i texts)) ((get_or texts i d).now ∷ []))
-    ∙ ap conditions_of (sym (ap (map bytes_of) (take_more texts i d low) ∙ map-append bytes_of (take i texts) (get_or texts i d ∷ [])))))
+pub one_text_more : (attributes : List (List ℕ)) (texts : List (Bor (List ℕ))) (i : ℕ) (d : Bor (List ℕ))
+    (old new : List ConditionModel) → i < length texts → old ≡ conditions_of attributes (map (λ text. text.now) (take i texts))
+    → new ≡ old ++ conditions_of attributes ((get_or texts i d).now ∷ [])
+    → new ≡ conditions_of attributes (map (λ text. text.now) (take (i + 1) texts))
+one_text_more attributes texts i d old new low is adds =
+    adds ∙ (ap (λ cs. cs ++ conditions_of attributes ((get_or texts i d).now ∷ [])) is
+    ∙ (sym (filter_map-append (condition_of attributes) (map bytes_of (take i texts)) ((get_or texts i d).now ∷ []))
+    ∙ ap (conditions_of attributes) (sym (ap (map bytes_of) (take_more texts i d low)
+    ∙ map-append bytes_of (take i texts) (get_or texts i d ∷ [])))))

@@ -7,4 +7,6 @@ mod CommandRules
 mod ReadValues
 mod WordFaults
 pub mod ColumnNames
+mod NewNames
+mod AsciiNames
 mod Paragraphs

@@ -3,7 +3,7 @@ use Rattle.std.proofs.Common.{◌≡◌, ◌∙◌, ◌<◌, ◌&&◌, ℕ, zero
 use Rattle.std.proofs.{Common.{sym, subst, Result, Err, Option, arith}, Math.Bool.and-false, lemmas.Result.err_from_is_err_and}
 use Rattle.std.specs.{Borrow.Bor, List.{list_all, slice_index_or}, Result.IsErrAnd, Prelude.{Some, codes, option_map, unwrap_or}}
 use Rattle.clap.specs.{Faults.fault_of, Simple.{App, matches_of}, Walk.{Row, rows_of}, declared.parser.matches.Found.Found}
-use Rattle.lc_arguments.specs.{CommandLine.{check_app, command_app, count_app, rules_in}, Options.options, ReadNumbers.AreReadBy}
+use Rattle.lc_arguments.specs.{CommandLine.{command_app, count_app, rules_in}, Options.options, ReadNumbers.AreReadBy}
 use Rattle.lc_arguments.specs.Explained.{AnswersCountWords, AnswersDiffWords, AnswersExplainWords, AnswersOr, AnswersSumWords}
 use Rattle.lc_arguments.specs.{Explained.{AnswersTable, IsParsedAs, IsRefusal, IsRefusedFor, IsUnread}, Repeated.is_allowed}
 use Rattle.lc_arguments.specs.Words.{AskNothing, IsNoRequestBy, MayRefuse, MayShow, count_words, faults_in, other_faults_in}
@@ -117,13 +117,6 @@ no_count_of words more (Refused text) is refused = elim refused [
   | inr asks ↦ inr (inl (more, is, asks))
 ]
 no_count_of words more Memory is none = tt
-
--- words that begin with `check` ask for nothing where those after it fail
-pub no_check_of : (words more : List (List ℕ)) (why : ParseExit) → words ≡ codes "check" ∷ more
-    → IsNoRequestBy (fault_of check_app more) why → AskNothing words why
-no_check_of words more (Shown text) is shown = subst (λ (ws : List (List ℕ)). AskNothing ws (Shown text)) (sym is) shown
-no_check_of words more (Refused text) is refused = subst (λ (ws : List (List ℕ)). AskNothing ws (Refused text)) (sym is) (inl refused)
-no_check_of words more Memory is none = tt
 
 -- words that begin with `explain` ask for nothing where those after it do not
 pub no_explanation_of : (words more : List (List ℕ)) (why : ParseExit) → words ≡ codes "explain" ∷ more

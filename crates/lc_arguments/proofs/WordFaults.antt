@@ -8,7 +8,7 @@ use Rattle.clap.specs.{Walk.{Row, Text, all_of, first_of, one_of, rows_of}, decl
 use Rattle.clap.specs.declared.parser.matches.{ArgMatches.ArgMatches, Found.Found}
 use Rattle.clap.proofs.{WalkLemmas.{first_value-rows, one_text-rows, raw_values-rows}, OnLiterals.clap_on_literals}
 use Rattle.lc_arguments.specs.{CommandLine.{command_app, lc_app}, Explained.Explains, Words.IsFlag}
-use Rattle.lc_arguments.specs.declared.option_row.Subcommand.{Subcommand, TheVariants.{Count, Explain, Check, Sum, Diff}}
+use Rattle.lc_arguments.specs.declared.option_row.Subcommand.{Subcommand, TheVariants.{Count, Explain, Check, Sum, Diff, Languages}}
 use Rattle.lc_arguments.specs.{Words.{IsText, IsNoRequestBy, texts_read}, ReadNumbers.{IsNumber, number_if_given}}
 use Rattle.lc_arguments.specs.declared.request.ParseExit.{ParseExit, TheVariants.{Shown, Refused, Memory}}
 use Rattle.clap.specs.declared.error.kind.ErrorKind.TheVariants as kind
@@ -21,6 +21,7 @@ command_is_simple Explain = refl
 command_is_simple Check = refl
 command_is_simple Sum = refl
 command_is_simple Diff = refl
+command_is_simple Languages = refl
 
 -- and asks for nothing that clap leaves open
 pub command_is_free : (command : Subcommand) → is_simple_and_free (command_app command) ≡ true
@@ -30,6 +31,7 @@ command_is_free Explain = refl
 command_is_free Check = refl
 command_is_free Sum = refl
 command_is_free Diff = refl
+command_is_free Languages = refl
 
 -- nor does lc
 pub lc_is_free : is_simple_and_free lc_app ≡ true

@@ -4,7 +4,7 @@ use Rattle.clap.specs.{Simple.{App, Shape, new_app, new_rule, on_top, with_rule,
 use Rattle.clap.specs.declared.builder.{action.ArgAction.TheVariants.{Append, Set, SetTrue}, value_parser.ValueParser.TheVariants.Signed}
 use Rattle.lc_arguments.specs.Options.{OptionModel, is_of, options}
 use Rattle.lc_arguments.specs.declared.option_row.Kind.{Kind, TheVariants.{Flag, Text, Texts, Number, Word, Words}}
-use Rattle.lc_arguments.specs.declared.option_row.Subcommand.{Subcommand, TheVariants.{Count, Explain, Check, Sum, Diff}}
+use Rattle.lc_arguments.specs.declared.option_row.Subcommand.{Subcommand, TheVariants.{Count, Explain, Check, Sum, Diff, Languages}}
 
 -- an argument of this kind with this name: an option without a value, with a text, with a text and repeatable, or with a number from 1 to a
 -- limit; or, without a hyphen, a required argument, or any number of arguments
@@ -59,6 +59,7 @@ command_name Explain = codes "explain"
 command_name Check = codes "check"
 command_name Sum = codes "sum"
 command_name Diff = codes "diff"
+command_name Languages = codes "languages"
 
 -- a command with its arguments
 abbrev pub command_app : Subcommand → App
@@ -79,12 +80,15 @@ sum_app = command_app Sum
 abbrev pub diff_app : App
 diff_app = command_app Diff
 
+abbrev pub languages_app : App
+languages_app = command_app Languages
+
 -- the program without commands and arguments, for words that name no command
 abbrev pub bare_lc_app : App
 bare_lc_app = on_top (λ (s : Shape). record s { no_binary_name = true; has_version = true; has_long_version = true }) (new_app (codes "lc"))
 
 abbrev pub subcommand_apps : List App
-subcommand_apps = count_app ∷ sum_app ∷ diff_app ∷ check_app ∷ explain_app ∷ []
+subcommand_apps = count_app ∷ sum_app ∷ diff_app ∷ check_app ∷ explain_app ∷ languages_app ∷ []
 
 -- a command with each of these subcommands added, in their order
 abbrev pub with_subcommands : App → List App → App

@@ -1,28 +1,17 @@
 -- The conditions that words ask for: a column, an operator and values, as in `eol=crlf,mixed` and `lines > 1000`.
-use Rattle.std.specs.Prelude.{ℕ, ◌==◌, ◌&&◌, ◌||◌, ◌+◌, ◌*◌, ◌-◌, Bool, true, false, not, nat_le, cond, List, [], ◌∷◌, ◌++◌, length, take}
-use Rattle.std.specs.{Prelude.{drop, codes, Option, Some, None}, List.{filter_map, list_all, list_any}, Str.bytes_eq}
+use Rattle.std.specs.Prelude.{ℕ, ◌==◌, ◌&&◌, ◌||◌, ◌+◌, ◌*◌, ◌-◌, Bool, true, false, not, nat_le, cond, List, [], ◌∷◌, ◌++◌}
+use Rattle.std.specs.{Prelude.{codes, Option, Some, None}, List.{filter_map, list_all, list_any}, Str.bytes_eq}
 use Rattle.lc_glob.specs.{Bytes.slash, Pieces.{is_byte, pieces_of}}
 use Rattle.lc_rules.specs.Bytes.{equals_sign, space}
-use Rattle.lc_sheet.specs.{ColumnWords.column_name, Conditions.{ConditionModel, comma, compared, none_of, one_of}}
+use Rattle.lc_sheet.specs.{ColumnWords.column_word, Conditions.{ConditionModel, comma, compared, none_of, one_of}}
 use Rattle.lc_sheet.specs.declared.column.{Column.{Column, TheVariants.{Key, Number}}, Number.TheVariants.{Lines, Blank, Bytes}}
-use Rattle.lc_sheet.specs.declared.key.Key.TheVariants.{Ext, Text, Eol}
+use Rattle.lc_sheet.specs.declared.key.Key.TheVariants.{Attribute, Ext, Text, Eol}
+use Rattle.lc_arguments.specs.{AttributeWords.{after_name, column_tested, place_of}}
+use Rattle.lc_arguments.specs.Texts.{after_front, exclamation_mark, greater_sign, less_sign}
 use Rattle.lc_sheet.specs.declared.condition.Comparison.{Comparison, TheVariants.{Less, AtMost, Equal, Unequal, AtLeast, Greater}}
-
-abbrev pub exclamation_mark : ℕ
-exclamation_mark = 33
-
-abbrev pub less_sign : ℕ
-less_sign = 60
-
-abbrev pub greater_sign : ℕ
-greater_sign = 62
 
 abbrev pub dot : ℕ
 dot = 46
-
--- the rest of a text after `front`, if the text begins with `front`
-abbrev pub after_front : List ℕ → List ℕ → Option (List ℕ)
-after_front front text = cond (bytes_eq (take (length front) text) front) (Some (drop (length front) text)) None
 
 abbrev pub without_spaces : List ℕ → List ℕ
 without_spaces [] = []
@@ -41,7 +30,15 @@ or_column column None other = other
 -- the first of these columns whose name begins a text, and the text after the name
 abbrev pub column_among : List Column → List ℕ → Option (Column × List ℕ)
 column_among [] text = None
-column_among (c ∷ cs) text = or_column c (after_front (column_name c) text) (column_among cs text)
+column_among (c ∷ cs) text = or_column c (after_front (column_word [] c) text) (column_among cs text)
+
+-- the column of a text and the text after its name: that of languages or of an attribute, or one of those above
+abbrev pub or_attribute : List (List ℕ) → List ℕ → Option (List ℕ) → Option (Column × List ℕ)
+or_attribute attributes text None = column_among condition_columns text
+or_attribute attributes text (Some attribute) = Some (Key (Attribute (place_of attribute attributes)), after_name text)
+
+abbrev pub column_at : List (List ℕ) → List ℕ → Option (Column × List ℕ)
+column_at attributes text = or_attribute attributes text (column_tested text)
 
 -- ---- operators
 
@@ -73,7 +70,7 @@ is_after_dot None = false
 is_after_dot (Some []) = false
 is_after_dot (Some (b ∷ bs)) = not (list_any (is_byte dot) (b ∷ bs)) && not (list_any (is_byte slash) (b ∷ bs))
 
--- a text can be a value of a column; `-` means no extension, or no attribute text
+-- a text can be a value of a column; `-` means no extension, an attribute that is unspecified, or no language
 abbrev pub can_have : Column → List ℕ → Bool
 can_have (Key Ext) text = bytes_eq text (codes "-") || is_after_dot (after_front (dot ∷ []) text)
 can_have (Key Text) text =
@@ -82,6 +79,7 @@ can_have (Key Text) text =
 can_have (Key Eol) text =
     bytes_eq text (codes "none") || bytes_eq text (codes "lf") || bytes_eq text (codes "crlf") || bytes_eq text (codes "cr")
     || bytes_eq text (codes "mixed") || bytes_eq text (codes "nul")
+can_have (Key (Attribute place)) text = true
 can_have other text = false
 
 -- a column can have each of some values, which commas separate
@@ -136,18 +134,18 @@ abbrev pub condition_on : Option (Column × List ℕ) → Option ConditionModel
 condition_on None = None
 condition_on (Some column) = condition_by column.0 (operator_at (without_spaces column.1))
 
--- the condition that a text writes; there may be spaces before and after the operator
-abbrev pub condition_of : List ℕ → Option ConditionModel
-condition_of text = condition_on (column_among condition_columns text)
+-- the condition that a text writes, if these columns are asked for; there may be spaces before and after the operator
+abbrev pub condition_of : List (List ℕ) → List ℕ → Option ConditionModel
+condition_of attributes text = condition_on (column_at attributes text)
 
 -- the conditions that texts write; a text that is no condition adds none
-abbrev pub conditions_of : List (List ℕ) → List ConditionModel
-conditions_of texts = filter_map condition_of texts
+abbrev pub conditions_of : List (List ℕ) → List (List ℕ) → List ConditionModel
+conditions_of attributes texts = filter_map (condition_of attributes) texts
 
 -- the condition of files that are not binary
 abbrev pub not_binary : ConditionModel
 not_binary = record { column = Key Eol; test = none_of (codes "nul" ∷ []) }
 
 -- the conditions that texts write, and, if `--no-binary` was typed, the condition that a file is not binary
-abbrev pub all_conditions : List (List ℕ) → Bool → List ConditionModel
-all_conditions texts asked = conditions_of texts ++ cond asked (not_binary ∷ []) []
+abbrev pub all_conditions : List (List ℕ) → List (List ℕ) → Bool → List ConditionModel
+all_conditions attributes texts asked = conditions_of attributes texts ++ cond asked (not_binary ∷ []) []

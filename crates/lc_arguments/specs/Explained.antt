@@ -5,7 +5,8 @@ use Rattle.clap.specs.{Faults.fault_of, Simple.{App, matches_of}, Values.kind_of
 use Rattle.clap.specs.{declared.{error.kind.ErrorKind.TheVariants.OutOfMemory, parser.matches.Found.Found}, Walk.{Row, rows_of}}
 use Rattle.lc_arguments.specs.CommandLine.{check_app, command_app, count_app, diff_app, explain_app, lc_app, rules_in, sum_app}
 use Rattle.lc_arguments.specs.Words.{IsText, IsNoRequestBy, IsCheckOf, IsExplainOf, MayRefuse, MayShow, AsksNoCount, AsksNoSum}
-use Rattle.lc_arguments.specs.Words.{AsksNoTable, AreFiltersOf, IsFitCountOf, IsFitSumOf, AreConditionsOf, IsWholeTableIn, Misvalue}
+use Rattle.lc_arguments.specs.Words.{AsksNoTable, AreAttributesOf, AreFiltersOf, IsFitCountOf, IsFitSumOf, AreConditionsOf, IsWholeTableIn}
+use Rattle.lc_arguments.specs.Words.{Misvalue}
 use Rattle.lc_arguments.specs.Words.{directories_read, is_bad_part, part_of, reports_read, texts_read, values_read, AsksNoDiff}
 use Rattle.lc_arguments.specs.{Words.{AsksNoWalk, IsFitDiffOf, IsWalkOf}, ReadNumbers.{AreCutsIn, AreNumbersIn, AreReadBy}}
 use Rattle.lc_arguments.specs.{Directories.{are_distinct, unslashed}, Repeated.are_allowed, Reports.{name_reports, named_of, report_model}}
@@ -81,9 +82,14 @@ AnswersDiffWords = AnswersCommand diff_app IsFitDiffOf AsksNoDiff
 abbrev pub AnswersFilters : List Row → Result FilterRequest ParseExit → Type 0
 AnswersFilters rows = AnswersOr (AreFiltersOf rows) (Misvalue rows)
 
+-- the attributes that were read; or an option has values that it may not have
+abbrev pub AnswersAttributes : List Row → Result (Vec (Bor (List ℕ))) ParseExit → Type 0
+AnswersAttributes rows = AnswersOr (λ (attributes : Vec (Bor (List ℕ))). AreAttributesOf rows attributes.items) (Misvalue rows)
+
 -- the conditions that were read; or an option has values that it may not have
-abbrev pub AnswersConditions : List Row → Result (Vec ConditionModel) ParseExit → Type 0
-AnswersConditions rows = AnswersOr (λ (conditions : Vec ConditionModel). AreConditionsOf rows conditions.items) (Misvalue rows)
+abbrev pub AnswersConditions : List Row → List (List ℕ) → Result (Vec ConditionModel) ParseExit → Type 0
+AnswersConditions rows attributes =
+    AnswersOr (λ (conditions : Vec ConditionModel). AreConditionsOf rows attributes conditions.items) (Misvalue rows)
 
 -- the values of an option, in their order, or the option may not have them all
 abbrev pub AnswersRepeated : Repeated → List (List ℕ) → Result (Vec (Bor (List ℕ))) ParseExit → Type 0

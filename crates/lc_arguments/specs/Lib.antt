@@ -1,5 +1,7 @@
 pub mod Combinations
 pub mod CommandLine
+pub mod Texts
+pub mod AttributeWords
 pub mod ConditionWords
 pub mod CountArgs
 pub mod Directories

@@ -4,7 +4,7 @@ use Rattle.std.specs.{Prelude.{Option, Some, None, ⊤, string_bytes}, Str.Iter.
 use Rattle.lc_text.specs.Visible.{visible_bytes}
 use Rattle.lc_arguments.specs.{Options.{OptionModel, is_of, options}, Words.{count_words, is_own_option}}
 use Rattle.lc_arguments.specs.declared.option_row.Kind.{Kind, TheVariants.{Flag, Text, Texts, Number, Word, Words}}
-use Rattle.lc_arguments.specs.declared.option_row.Subcommand.{Subcommand, TheVariants.{Count, Explain, Check, Diff, Sum}}
+use Rattle.lc_arguments.specs.declared.option_row.Subcommand.{Subcommand, TheVariants.{Count, Explain, Check, Diff, Languages, Sum}}
 use Rattle.lc_arguments.specs.declared.request.ParseExit.{ParseExit, TheVariants.{Shown, Refused, Memory}}
 
 -- what a message of clap has before and after the name of an argument: the hyphens of an option; or, without a hyphen, `<` and `>` around a
@@ -41,7 +41,7 @@ abbrev pub named_by : List ℕ → Option Subcommand
 named_by word =
     cond (bytes_eq word (codes "check")) (Some Check)
     (cond (bytes_eq word (codes "explain")) (Some Explain) (cond (bytes_eq word (codes "sum")) (Some Sum)
-    (cond (bytes_eq word (codes "diff")) (Some Diff) None)))
+    (cond (bytes_eq word (codes "diff")) (Some Diff) (cond (bytes_eq word (codes "languages")) (Some Languages) None))))
 
 abbrev pub named_command : List (List ℕ) → Option Subcommand
 named_command [] = None

@@ -2,7 +2,7 @@
 use Rattle.std.specs.Prelude.{ℕ, Bool, true, false, List, [], ◌∷◌, Option, Some, None, option_map, codes}
 use Rattle.lc_arguments.specs.declared.option_row.{Commands.Commands, Kind.{Kind, TheVariants.{Flag, Text, Texts, Number, Word, Words}}}
 use Rattle.lc_arguments.specs.declared.option_row.OptionRow.{OptionRow}
-use Rattle.lc_arguments.specs.declared.option_row.Subcommand.{Subcommand, TheVariants.{Count, Explain, Check, Diff, Sum}}
+use Rattle.lc_arguments.specs.declared.option_row.Subcommand.{Subcommand, TheVariants.{Count, Explain, Check, Diff, Languages, Sum}}
 
 -- an argument: its name, its letter, its kind, its default, and the commands that have it
 pub record OptionModel : Type 0 where
@@ -22,13 +22,14 @@ option_model row = record {
   of = row.of;
 }
 
--- a command is in the set
+-- a command is in the set; `lc languages` has no arguments
 abbrev pub is_of : Subcommand → Commands → Bool
 is_of Count commands = commands.count
 is_of Explain commands = commands.explain
 is_of Check commands = commands.check
 is_of Sum commands = commands.sum
 is_of Diff commands = commands.diff
+is_of Languages commands = false
 
 -- no command
 abbrev pub none : Commands

@@ -1,13 +1,15 @@
 -- The table that the words of a command line request.
-use Rattle.std.specs.Prelude.{◌≡◌, ◌||◌, ℕ, Bool, true, false, cond, List, length, filter, Option, Some, None, option_map, unwrap_or}
-use Rattle.std.specs.{Prelude.{is_some, codes, IfSome}, List.{list_all, list_any}, Str.bytes_eq}
+use Rattle.std.specs.Prelude.{◌≡◌, ◌≤◌, ◌<◌, ◌⊎◌, ◌||◌, ◌+◌, ℕ, Bool, true, false, cond, List, [], length, filter, Option, Some, None}
+use Rattle.std.specs.Prelude.{option_map, unwrap_or}
+use Rattle.std.specs.{Bool.MatchBool, Prelude.{is_some, codes, IfSome}, List.{list_all, list_any}, Str.bytes_eq}
 use Rattle.lc_glob.specs.Pieces.{pieces_of}
-use Rattle.lc_sheet.specs.{Keys.{has_key, key_name, keys}, declared.key.Key.Key}
+use Rattle.lc_sheet.specs.{Keys.{has_key, key_name, keys}, declared.key.Key.{Key, TheVariants.Attribute}}
 use Rattle.lc_sheet.specs.declared.table_options.{Columns.Columns, Format.{Format, TheVariants.{Tsv, Table, Json, Csv, Markdown}}}
 use Rattle.lc_sheet.specs.declared.table_options.Output.{Output, TheVariants.{Text, Picture}}
 use Rattle.lc_sheet.specs.declared.table_options.{Order.{Order, TheVariants.{Name, Largest}}, TableOptions.TableOptions}
 use Rattle.lc_sheet.specs.declared.column.Number.{Number, TheVariants.{Files, Lines, Blank, Bytes}}
-use Rattle.lc_arguments.specs.declared.table.TableRequest.{TableRequest}
+use Rattle.lc_arguments.specs.AttributeWords.{how_often, languages_in, names_attribute, names_column}
+use Rattle.lc_arguments.specs.{Texts.comma, declared.table.TableRequest.TableRequest}
 
 -- the word of `--format` that names an output
 abbrev pub output_word : Output → List ℕ
@@ -29,26 +31,48 @@ abbrev pub order_word : Order → List ℕ
 order_word Name = codes "name"
 order_word (Largest number) = sort_word number
 
-abbrev pub comma : ℕ
-comma = 44
-
--- how often a name is in a list of names
-abbrev pub how_often : List ℕ → List (List ℕ) → ℕ
-how_often name names = length (filter (bytes_eq name) names)
-
 abbrev pub once_if : Bool → ℕ
 once_if true = 1
 once_if false = 0
 
--- whether a name is that of a key
+-- whether a name is that of a key whose name is fixed
 abbrev pub is_key_name : List ℕ → Bool
-is_key_name name = list_any (λ k. bytes_eq (key_name k) name) keys
+is_key_name name = list_any (λ k. bytes_eq (key_name [] k) name) keys
 
--- the names are those of the keys of these columns, each once, and no others; directories are cut to `depth` segments
+abbrev pub is_fixed : Key → Bool
+is_fixed (Attribute place) = false
+is_fixed other = true
+
+-- the greatest number of attributes that rows may be grouped by
+abbrev pub max_attributes : ℕ
+max_attributes = 16
+
+-- the greatest number of columns of attributes and of languages that these names may have
+abbrev pub max_columns : List (List ℕ) → ℕ
+max_columns names = max_attributes + length (languages_in names)
+
+-- the names are those of the keys of these columns and of as many columns of attributes and of languages, each once, and no others;
+-- directories are cut to `depth` segments
 pub record AreNamesOf (names : List (List ℕ)) (depth : ℕ) (c : Columns) : Type 0 where
-  pub each : (k : Key) → how_often (key_name k) names ≡ once_if (has_key c k)
+  pub each : (k : Key) → is_fixed k ≡ true → how_often (key_name [] k) names ≡ once_if (has_key c k)
   pub cut : IfSome c.dir (λ segments. segments ≡ depth)
-  pub no_others : list_all is_key_name names ≡ true
+  pub attributes : c.attributes ≡ length (filter names_column names)
+  pub few : length (filter names_attribute names) ≤ max_attributes
+  pub once : (name : List ℕ) → names_column name ≡ true → how_often name names ≤ 1
+  pub no_others : list_all (λ name. names_column name || is_key_name name) names ≡ true
+
+-- a name is that of this key, which these columns lack; those of attributes and of languages are at most `most`, and none of the others
+-- that are left
+abbrev pub IsKeyAfter : ℕ → Columns → List ℕ → List (List ℕ) → Key → Type 0
+IsKeyAfter most c name left k = MatchBool (names_column name)
+    ((k ≡ Attribute c.attributes) × (c.attributes < most) × (how_often name left ≡ 0))
+    ((key_name [] k ≡ name) × (is_fixed k ≡ true) × (has_key c k ≡ false))
+
+-- a name is that of no such key: an attribute's where there are too many, or that is named again; no key's, or that of a key that is there
+abbrev pub IsNoKeyAfter : ℕ → Columns → List ℕ → List (List ℕ) → Type 0
+IsNoKeyAfter most c name left = MatchBool (names_column name)
+    ((most ≤ c.attributes) ⊎ (1 ≤ how_often name left))
+    ((is_key_name name ≡ false) ⊎ ((k : Key) × (key_name [] k ≡ name) × (is_fixed k ≡ true) × (has_key c k ≡ true)))
 
 -- a text has the names of these columns, with commas between them
 abbrev pub IsColumnsText : List ℕ → ℕ → Columns → Type 0

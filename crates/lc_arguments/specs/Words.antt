@@ -4,14 +4,16 @@ use Rattle.std.specs.{Prelude.{Result, Ok, Err, unwrap_or, option_map, map, code
 use Rattle.clap.specs.{Faults.fault_of, Kinds.{IsAmong, Kinds}, Simple.matches_of, Walk.{Row, all_of, first_of, one_of}}
 use Rattle.clap.specs.declared.error.kind.ErrorKind.{ErrorKind, TheVariants.{DisplayHelp, DisplayVersion}}
 use Rattle.lc_glob.specs.{Bytes.{hyphen, slash}, Pieces.is_byte}
-use Rattle.lc_arguments.specs.{CommandLine.{count_app, check_app, diff_app, explain_app, lc_app, sum_app}, Options.{max_depth, max_dirs}}
-use Rattle.lc_arguments.specs.{Options.max_threads, Combinations.{diff_fits, fit_together, table_fits}, ConditionWords.all_conditions}
+use Rattle.lc_arguments.specs.CommandLine.{count_app, check_app, diff_app, explain_app, languages_app, lc_app, sum_app}
+use Rattle.lc_arguments.specs.{AttributeWords.attributes_asked, Combinations.{diff_fits, fit_together, table_fits}}
+use Rattle.lc_arguments.specs.Options.{max_depth, max_dirs, max_threads}
+use Rattle.lc_arguments.specs.ConditionWords.{all_conditions}
 use Rattle.lc_arguments.specs.{Directories.{are_distinct, or_default, unslashed}, Repeated.{are_allowed, id_of}}
 use Rattle.lc_arguments.specs.declared.repeated.Repeated.{Repeated, TheVariants.{Attributes, Excluded, Included, Conditions}}
 use Rattle.lc_arguments.specs.declared.{reports.NamedReport.NamedReport, diff.DiffRequest.DiffRequest, sum.SumRequest.SumRequest}
 use Rattle.lc_arguments.specs.declared.walk_request.WalkRequest.{WalkRequest}
 use Rattle.lc_arguments.specs.declared.request.ParseExit.{ParseExit, TheVariants.{Shown, Refused, Memory}}
-use Rattle.lc_arguments.specs.declared.request.Request.{Request, TheVariants.{CheckJoined, Check, Count, Diff, Explain, Sum}}
+use Rattle.lc_arguments.specs.declared.request.Request.{Request, TheVariants.{CheckJoined, Check, Count, Diff, Explain, Languages, Sum}}
 use Rattle.lc_arguments.specs.declared.{table.TableRequest.TableRequest, check.CheckRequest.CheckRequest, count.CountRequest.CountRequest}
 use Rattle.lc_arguments.specs.declared.{filter_request.FilterRequest.FilterRequest, explain.ExplainRequest.ExplainRequest}
 use Rattle.lc_arguments.specs.{Reports.{name_reports, named_of, report_model}, ReadNumbers.{IsNumber, number_if_given}}
@@ -47,6 +49,7 @@ IsWithinLimits (Count c) = IsCountWithinLimits c
 IsWithinLimits (Explain _) = Unit {0}
 IsWithinLimits (Sum s) = IsTableWithinLimits s.table
 IsWithinLimits (Diff d) = IsDiffWithinLimits d
+IsWithinLimits Languages = Unit {0}
 
 -- the value of a flag that was read
 abbrev pub IsFlag : List ℕ → List Row → Bool → Type 0
@@ -114,12 +117,17 @@ pub record AreFiltersOf (rows : List Row) (e : FilterRequest) : Type 0 where
   pub include : AreValuesOf rows Included e.include.items
   pub no_ignore : IsFlag (codes "no-ignore") rows e.no_ignore
 
--- these are the conditions that `--where` and `--no-binary` request
-pub record AreConditionsOf (rows : List Row) (cs : List ConditionModel) : Type 0 where
+-- these are the columns of attributes and of languages that `--by` and `--where` name
+abbrev pub AreAttributesOf : List Row → List (Bor (List ℕ)) → Type 0
+AreAttributesOf rows attributes =
+    map (λ attribute. attribute.now) attributes ≡ attributes_asked (first_of (codes "by") rows) (values_read rows Conditions)
+
+-- these are the conditions that `--where` and `--no-binary` request, if these columns are asked for
+pub record AreConditionsOf (rows : List Row) (attributes : List (List ℕ)) (cs : List ConditionModel) : Type 0 where
   pub allowed : are_allowed Conditions (values_read rows Conditions) ≡ true
   pub no_binary : Bool
   pub flag : IsFlag (codes "no-binary") rows no_binary
-  pub are : cs ≡ all_conditions (values_read rows Conditions) no_binary
+  pub are : cs ≡ all_conditions attributes (values_read rows Conditions) no_binary
 
 -- a table has the requested format, columns and order, and its directories are cut to this depth
 abbrev pub IsTableAt : List Row → Option ℕ → TableRequest → Type 0
@@ -166,7 +174,8 @@ pub record IsCountOf (rows : List Row) (c : CountRequest) : Type 0 where
   pub walk : IsWalkOf rows c.walk
   pub left_out : IsFlag (codes "left-out") rows c.left_out
   pub table : IsWholeTableIn rows c.table
-  pub conditions : AreConditionsOf rows c.conditions.items
+  pub attributes : AreAttributesOf rows c.attributes.items
+  pub conditions : AreConditionsOf rows (map (λ attribute. attribute.now) c.attributes.items) c.conditions.items
   pub fail_if_any : IsFlag (codes "fail-if-any") rows c.fail_if_any
   pub directories : AreDirectoriesOf rows c.directories.items
 
@@ -198,7 +207,8 @@ AreReportsOf rows reports = (map report_model reports ≡ map named_of (reports_
 pub record IsSumOf (rows : List Row) (s : SumRequest) : Type 0 where
   pub left_out : IsFlag (codes "left-out") rows s.left_out
   pub table : IsWholeTableIn rows s.table
-  pub conditions : AreConditionsOf rows s.conditions.items
+  pub attributes : AreAttributesOf rows s.attributes.items
+  pub conditions : AreConditionsOf rows (map (λ attribute. attribute.now) s.attributes.items) s.conditions.items
   pub fail_if_any : IsFlag (codes "fail-if-any") rows s.fail_if_any
   pub reports : AreReportsOf rows s.reports.items
 
@@ -219,7 +229,8 @@ pub record IsDiffOf (rows : List Row) (d : DiffRequest) : Type 0 where
   pub walk : IsWalkOf rows d.walk
   pub table : IsPlainTableIn rows d.table
   pub no_share : d.table.share ≡ false
-  pub conditions : AreConditionsOf rows d.conditions.items
+  pub attributes : AreAttributesOf rows d.attributes.items
+  pub conditions : AreConditionsOf rows (map (λ attribute. attribute.now) d.attributes.items) d.conditions.items
   pub fail_if_any : IsFlag (codes "fail-if-any") rows d.fail_if_any
   pub all : IsFlag (codes "all") rows d.all
   pub old : d.old.now ≡ unwrap_or (first_of (codes "OLD") rows) []
@@ -298,7 +309,8 @@ other_faults_in (word ∷ words) =
     (cond (bytes_eq word (codes "explain")) (fault_of explain_app words)
     (cond (bytes_eq word (codes "sum")) (fault_of sum_app words)
     (cond (bytes_eq word (codes "diff")) (fault_of diff_app words)
-    (fault_of lc_app (word ∷ words)))))
+    (cond (bytes_eq word (codes "languages")) (fault_of languages_app words)
+    (fault_of lc_app (word ∷ words))))))
 
 -- the ways in which words fail
 abbrev pub faults_in : List (List ℕ) → Kinds
@@ -308,7 +320,7 @@ faults_in words = unwrap_or (option_map (fault_of count_app) (count_words words)
 abbrev pub NameNoCommand : List (List ℕ) → Type 0
 NameNoCommand words = (count_words words ≡ None) × ((more : List (List ℕ)) →
     (words ≢ codes "check" ∷ more) × (words ≢ codes "explain" ∷ more) × (words ≢ codes "sum" ∷ more)
-    × (words ≢ codes "diff" ∷ more))
+    × (words ≢ codes "diff" ∷ more) × (words ≢ codes "languages" ∷ more))
 
 -- words that fail in no way make this request
 abbrev pub Asks : List (List ℕ) → Request → Type 0
@@ -318,6 +330,7 @@ Asks words (Count c) = (more : List (List ℕ)) × (count_words words ≡ Some m
 Asks words (Explain c) = (more : List (List ℕ)) × (words ≡ codes "explain" ∷ more) × IsExplainOf (matches_of explain_app more) c
 Asks words (Sum s) = (more : List (List ℕ)) × (words ≡ codes "sum" ∷ more) × IsFitSumOf (matches_of sum_app more) s
 Asks words (Diff d) = (more : List (List ℕ)) × (words ≡ codes "diff" ∷ more) × IsFitDiffOf (matches_of diff_app more) d
+Asks words Languages = (more : List (List ℕ)) × (words ≡ codes "languages" ∷ more)
 
 -- the words of a count fail in no way in clap, but request no count
 abbrev pub AskForNoCount : List (List ℕ) → Type 0

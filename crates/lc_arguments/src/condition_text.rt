@@ -1,16 +1,18 @@
 //! The text of a condition on files: a column, an operator and values.
 
-ghost use Rattle.std.specs.Prelude.{◌≡◌, option_map};
-ghost use Rattle.lc_arguments.specs.ConditionWords.{after_front, can_have, can_have_all};
-ghost use Rattle.lc_arguments.specs.ConditionWords.{column_among, comparison_of, condition_columns, condition_of};
+ghost use Rattle.std.specs.Prelude.{◌≡◌, map, option_map};
+ghost use Rattle.lc_arguments.specs.Texts.{after_front};
+ghost use Rattle.lc_arguments.specs.ConditionWords.{can_have, can_have_all};
+ghost use Rattle.lc_arguments.specs.ConditionWords.{column_among, column_at, comparison_of, condition_columns, condition_of};
 ghost use Rattle.lc_arguments.specs.ConditionWords.{condition_with, is_after_dot, list_condition, number_condition, number_in, operator_at};
 ghost use Rattle.lc_arguments.specs.ConditionWords.{digits_from, is_digit, with_digit, without_spaces};
 
+use crate::attributes::{column_tested, place_of};
 use lc_glob::cut_at_first;
 use lc_sheet::{Column, Comparison, Condition, Key, Number, Test};
 
 /// Returns the rest of a text after `front`, if the text begins with `front`.
-fn after_front<'w>(front: &[u8], text: &'w [u8]) -> Option<&'w [u8]>
+pub(crate) fn after_front<'w>(front: &[u8], text: &'w [u8]) -> Option<&'w [u8]>
     ensures { option_map (λ rest. rest.now) result ≡ after_front front.now text.entry.now }
 {
     text.strip_prefix(front)
@@ -41,18 +43,34 @@ fn condition_columns() -> &'static [Column]
     ]
 }
 
-/// Finds the column whose name begins a text, and returns it with the text after the name.
-fn column_at(text: &[u8]) -> Option<(Column, &[u8])>
+/// Finds the column with a fixed name that begins a text, and returns it with the text after the name.
+fn column_among(text: &[u8]) -> Option<(Column, &[u8])>
     ensures { option_map (λ found. (found.0, found.1.now)) result ≡ column_among condition_columns text.entry.now }
 {
     let mut columns = condition_columns();
     'columns: while let [column, others @ ..] = columns {
-        if let Some(rest) = after_front(column.name().as_bytes(), text) {
+        if let Some(rest) = after_front(column.word(&[]).as_bytes(), text) {
             return Some((*column, rest));
         }
         columns = others;
     }
     None
+}
+
+/// Finds the column whose name begins a text, and returns it with the text after the name. The places of columns of attributes and of
+/// languages are those among `attributes`.
+fn column_at<'w>(attributes: &[&str], text: &'w [u8]) -> Option<(Column, &'w [u8])>
+    ensures { option_map (λ found. (found.0, found.1.now)) result
+        ≡ column_at (map (λ attribute. attribute.now) attributes.now) text.entry.now }
+{
+    let (tested, rest) = column_tested(text);
+    match tested {
+        None => column_among(text),
+        Some(attribute) => {
+            let place = place_of(attribute, attributes);
+            Some((Column::Key(Key::Attribute(place)), rest))
+        }
+    }
 }
 
 /// Returns the operator that consists of a byte and, if `equals`, of an equals sign after the byte.
@@ -118,6 +136,7 @@ fn can_have(column: Column, text: &[u8]) -> bool
                 || text == b"mixed".as_slice()
                 || text == b"nul".as_slice()
         }
+        Column::Key(Key::Attribute(_)) => true,
         _ => false,
     }
 }
@@ -209,11 +228,12 @@ fn condition_with(column: Column, comparison: Comparison, values: &[u8]) -> Opti
     }
 }
 
-/// Reads a condition, such as `eol=crlf,mixed` or `lines > 1000`.
-pub(crate) fn condition_of(text: &[u8]) -> Option<Condition<'_>>
-    ensures { result ≡ condition_of text.entry.now }
+/// Reads a condition, such as `eol=crlf,mixed` or `lines > 1000`. The places of columns of attributes and of languages are those among
+/// `attributes`.
+pub(crate) fn condition_of<'w>(attributes: &[&str], text: &'w [u8]) -> Option<Condition<'w>>
+    ensures { result ≡ condition_of (map (λ attribute. attribute.now) attributes.now) text.entry.now }
 {
-    let (column, rest) = column_at(text)?;
+    let (column, rest) = column_at(attributes, text)?;
     let (comparison, values) = operator_at(without_spaces(rest))?;
     condition_with(column, comparison, without_spaces(values))
 }
@@ -235,6 +255,8 @@ fn values_of(column: Column) -> &'static str {
         Column::Key(Key::Eol) => {
             ": eol takes '=' or '!=', and none, lf, crlf, cr, mixed or nul, separated by commas"
         }
+        Column::Key(_) =>
+            ": an attribute takes '=' or '!=', and values, set, unset or -, separated by commas",
         _ => ": a number has digits alone, and is below 18446744073709551616",
     }
 }
@@ -247,11 +269,18 @@ pub(crate) fn why_no_condition(text: &[u8]) -> &'static str {
     if !text.iter().any(|byte| is_operator_byte(*byte)) {
         return ": it has no operator; quote a condition, as in --where 'lines>1000'";
     }
-    let Some((column, rest)) = column_at(text) else {
-        return ": the columns are ext, text, eol, lines, blank and bytes";
+    let (tested, _) = column_tested(text);
+    if text.starts_with(b"attr:") && tested.is_none() {
+        return ": an attribute's name has letters, digits, '-', '.' and '_', and does not begin with '-'";
+    }
+    let Some((column, rest)) = column_at(&[], text) else {
+        return ": the columns are lang, ext, text, eol, attr:NAME, lines, blank and bytes";
     };
     match operator_at(without_spaces(rest)) {
         None => ": after the column comes one of =, !=, <, <=, > and >=",
+        Some(_) if tested == Some("lang") => {
+            ": lang takes '=' or '!=', and languages such as C++, separated by commas; - is none"
+        }
         Some(_) => values_of(column),
     }
 }

@@ -14,10 +14,15 @@ use lc_sheet::{Column, Condition, Key, Test};
 use std::alloc::{AllocError, Global};
 
 /// Appends the condition of a text, if the text is a condition.
-fn push_condition<'w>(conditions: &mut Vec<Condition<'w>>, text: &'w str) -> Result<(), AllocError>
-    ensures { OnOk result (conditions.new.items ≡ conditions.old.items ++ conditions_of (text.entry.now ∷ [])) }
+fn push_condition<'w>(
+    attributes: &[&str],
+    conditions: &mut Vec<Condition<'w>>,
+    text: &'w str,
+) -> Result<(), AllocError>
+    ensures { OnOk result (conditions.new.items
+        ≡ conditions.old.items ++ conditions_of (map (λ attribute. attribute.now) attributes.now) (text.entry.now ∷ [])) }
 {
-    if let Some(condition) = condition_of(text.as_bytes()) {
+    if let Some(condition) = condition_of(attributes, text.as_bytes()) {
         conditions.push(condition)?;
     }
     Ok(())
@@ -36,14 +41,16 @@ fn not_binary<'w>() -> Condition<'w>
 /// Reads the conditions in some texts, and adds the condition of `--no-binary` if that option was used.
 fn all_conditions<'w>(
     alloc: Global,
+    attributes: &[&str],
     texts: &[&'w str],
     no_binary: bool,
 ) -> Result<Vec<Condition<'w>>, AllocError>
-    ensures { IfOk result (λ conditions. conditions.items ≡ all_conditions (map (λ text. text.now) texts.now) no_binary) }
+    ensures { IfOk result (λ conditions. conditions.items
+        ≡ all_conditions (map (λ attribute. attribute.now) attributes.now) (map (λ text. text.now) texts.now) no_binary) }
 {
     let mut conditions = Vec::new(alloc);
     for text in texts {
-        push_condition(&mut conditions, text)?;
+        push_condition(attributes, &mut conditions, text)?;
     }
     if no_binary {
         conditions.push(not_binary())?;
@@ -51,19 +58,21 @@ fn all_conditions<'w>(
     Ok(conditions)
 }
 
-/// Reads the conditions from clap's values.
+/// Reads the conditions from clap's values. The places of columns of attributes and of languages are those among
+/// `attributes`.
 pub(crate) fn conditions_in<'w>(
     alloc: Global,
     matches: &ArgMatches<'w>,
+    attributes: &[&str],
 ) -> Result<Vec<Condition<'w>>, ParseExit>
-    ensures { AnswersConditions (rows_of (found_of matches.now)) result }
+    ensures { AnswersConditions (rows_of (found_of matches.now)) (map (λ attribute. attribute.now) attributes.now) result }
 {
     let texts = match values_in(alloc, matches, Repeated::Conditions) {
         Ok(texts) => texts,
         Err(no) => return Err(no),
     };
     let no_binary = matches.get_flag("no-binary");
-    match all_conditions(alloc, &texts, no_binary) {
+    match all_conditions(alloc, attributes, &texts, no_binary) {
         Ok(conditions) => Ok(conditions),
         Err(AllocError) => Err(ParseExit::Memory),
     }

@@ -6,6 +6,7 @@ ghost use Rattle.lc_arguments.specs.Explained.{AnswersCountWords, AnswersIn};
 ghost use Rattle.lc_arguments.specs.Words.{AsksNoCount, IsCountOf};
 ghost use Rattle.lc_arguments.specs.declared.option_row.Subcommand.TheVariants.{Count};
 
+use crate::attributes::attributes_in;
 use crate::combinations::misfit;
 use crate::conditions::conditions_in;
 use crate::directories::directories_in;
@@ -28,6 +29,9 @@ pub struct CountRequest<'w> {
     pub left_out: bool,
     /// How the table is printed.
     pub table: TableRequest,
+    /// The names of the columns of attributes, such as `attr:team`, and of languages, `lang`: first those of `--by`, of which `lang` is the
+    /// first, and then the others that conditions test.
+    pub attributes: Vec<&'w str>,
     /// Show only files that meet all of these conditions.
     pub conditions: Vec<Condition<'w>>,
     /// Exit with status 4 if a counted file meets all of `conditions`.
@@ -45,11 +49,13 @@ fn request_in<'w>(alloc: Global, matches: &ArgMatches<'w>) -> Result<CountReques
     let walk = WalkRequest::read(alloc, matches, numbers)?;
     let directories = directories_in(alloc, matches)?;
     let table = table_in(alloc, matches, numbers.cuts)?;
-    let conditions = conditions_in(alloc, matches)?;
+    let attributes = attributes_in(alloc, matches)?;
+    let conditions = conditions_in(alloc, matches, &attributes)?;
     Ok(CountRequest {
         walk,
         left_out: matches.get_flag("left-out"),
         table,
+        attributes,
         conditions,
         fail_if_any: matches.get_flag("fail-if-any"),
         directories,

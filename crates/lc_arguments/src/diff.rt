@@ -6,6 +6,7 @@ ghost use Rattle.lc_arguments.specs.Explained.{AnswersDiffWords, AnswersIn};
 ghost use Rattle.lc_arguments.specs.Words.{AsksNoDiff, IsDiffOf};
 ghost use Rattle.lc_arguments.specs.declared.option_row.Subcommand.TheVariants.{Diff};
 
+use crate::attributes::attributes_in;
 use crate::combinations::diff_misfit;
 use crate::conditions::conditions_in;
 use crate::numbers::Numbers;
@@ -25,6 +26,9 @@ pub struct DiffRequest<'w> {
     pub walk: WalkRequest<'w>,
     /// How the table is printed: without the rows' shares of the total, and not as a picture.
     pub table: TableRequest,
+    /// The names of the columns of attributes, such as `attr:team`, and of languages, `lang`: first those of `--by`, of which `lang` is the
+    /// first, and then the others that conditions test.
+    pub attributes: Vec<&'w str>,
     /// Compare only files that meet all of these conditions.
     pub conditions: Vec<Condition<'w>>,
     /// Exit with status 4 if OLD and NEW differ in a row of the table or, with `--files`, in a file.
@@ -44,13 +48,15 @@ fn request_in<'w>(alloc: Global, matches: &ArgMatches<'w>) -> Result<DiffRequest
     let numbers = Numbers::read(matches);
     let walk = WalkRequest::read(alloc, matches, numbers)?;
     let table = table_in(alloc, matches, numbers.cuts)?;
-    let conditions = conditions_in(alloc, matches)?;
+    let attributes = attributes_in(alloc, matches)?;
+    let conditions = conditions_in(alloc, matches, &attributes)?;
     Ok(DiffRequest {
         walk,
         table: TableRequest {
             share: false,
             ..table
         },
+        attributes,
         conditions,
         fail_if_any: matches.get_flag("fail-if-any"),
         all: matches.get_flag("all"),

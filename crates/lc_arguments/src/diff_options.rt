@@ -48,9 +48,9 @@ pub(crate) const BY: OptionRow = OptionRow {
     kind: Kind::Text,
     of: DIFF,
     heading: WHAT_IS_PRINTED,
-    help: "Sum rows by some of dir,ext,text,eol [default: ext]",
+    help: "Sum rows by dir,lang,ext,text,eol,attr:NAME [default: ext]",
     brief: "Sum rows by these columns",
-    completes: Completes::List(&["dir", "ext", "text", "eol"]),
+    completes: Completes::List(&["dir", "lang", "ext", "text", "eol"]),
     ..FLAG
 };
 

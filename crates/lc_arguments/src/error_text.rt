@@ -77,8 +77,26 @@ pub(crate) fn value_refused(
         "error: invalid value '{value}' for '--{option} <{name}>'{why}"
     )?;
     push_possible(&mut text, completes)?;
+    push_meant(&mut text, option, value)?;
     text.push_str("\n\nFor more information, try '--help'.\n")?;
     Ok(text)
+}
+
+/// Words that people type for columns, and the names of these columns.
+const MEANT: &[(&str, &str)] = &[
+    ("directory", "dir"),
+    ("extension", "ext"),
+    ("language", "lang"),
+];
+
+/// Appends a tip if the value of `--by` is a word for a column.
+fn push_meant(text: &mut String, option: &str, value: &str) -> Result<(), AllocError> {
+    for (word, name) in MEANT {
+        if option == "by" && value == *word {
+            write!(text, "\n\n  tip: write '--by {name}'")?;
+        }
+    }
+    Ok(())
 }
 
 /// Makes the text that refuses a number, if clap's message `problem` is about a value of this option. `most` is the greatest allowed

@@ -54,7 +54,7 @@ Exit status:
 Example: lc .
 
 See also: lc count --help, lc sum --help, lc diff --help, lc explain --help,
-lc check --help, man lc",
+lc check --help, lc languages --help, man lc",
 };
 
 pub(crate) const COUNT: CommandHelp = CommandHelp {
@@ -76,6 +76,9 @@ sums are added. Paths then begin with DIR as you typed it.
 
 Each row is for the files of one kind:
   dir    the directory, relative to DIR; only with --by dir
+  lang   the language, such as C++; - for none; only with --by lang
+  NAME   the state of a Git attribute: set, unset, its value, or - for none;
+         only with --by attr:NAME
   ext    the extension of the name, with its dot; - for none
   text   the attribute text in .gitattributes: set, unset, auto, other, or -
   eol    how lines end: lf, crlf, cr, mixed or none; nul for a file with a NUL
@@ -135,7 +138,9 @@ paths can be added. It is what is before the first = if no slash is before that:
 
 Without --by, rows are by those of ext, text and eol that every REPORT has.
 --files, --by dir, --format html and a condition on a number need reports that
-were counted with --files, and --left-out those counted with --left-out.
+were counted with --files, --by attr:NAME and a condition on attr:NAME those
+counted with --files --by attr:NAME, lang those counted with --files --by lang,
+and --left-out those counted with --left-out.
 
 Exit status:
   0  everything was added, and no REPORT lists what could not be read
@@ -244,4 +249,29 @@ Exit status:
 Examples:
   printf '%s\\n' main.c main.o build/ | lc check .gitignore
   git ls-files | lc check --explain .gitignore",
+};
+
+pub(crate) const LANGUAGES: CommandHelp = CommandHelp {
+    full_name: "lc languages",
+    usage: "lc languages",
+    about: "Print the list of languages",
+    after: "Example: lc languages",
+    after_long: "\
+For each name and each end of names that the list has, lc prints a line of a
+.gitattributes, such as
+
+  *.c linguist-language=C
+
+lc count --by lang takes a file's language from its attribute linguist-language,
+or else from this list. Put the lines that you change into .gitattributes, for
+--by lang and for GitHub.
+
+Exit status:
+  0  the list was printed
+  2  usage error
+  3  stopped with an error; standard error shows it in one line
+
+Examples:
+  lc languages
+  lc languages | grep Perl",
 };

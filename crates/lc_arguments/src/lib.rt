@@ -13,6 +13,7 @@
 //! - `directories`: the arguments DIR of `lc count`
 //! - `paths`: the paths of `--only`
 //! - `reports`: the arguments REPORT of `lc sum`
+//! - `attributes`: the attributes that `--by` and `--where` name
 //! - `conditions`: the conditions of `--where` and `--no-binary`
 //! - `condition_text`: the text of one condition
 //! - `repeated`: the values of options that may be used several times
@@ -34,6 +35,7 @@
 #![tactic(auto)]
 
 mod arguments;
+mod attributes;
 mod check;
 mod combinations;
 mod condition_text;

@@ -50,10 +50,10 @@ repeated",
     (
         "attributes-from",
         WHICH_FILES,
-        "Read attributes in FILE, too, for --without, --archive and the column
-text. FILE has the syntax of a .gitattributes and its patterns are
-relative to DIR; every .gitattributes overrides it, as git reads
-core.attributesFile. It may define macros",
+        "Read attributes in FILE, too, for --without, --archive and the columns
+lang, text and attr:NAME. FILE has the syntax of a .gitattributes and
+its patterns are relative to DIR; every .gitattributes overrides it,
+as git reads core.attributesFile. It may define macros",
     ),
     (
         "only",
@@ -90,9 +90,10 @@ with the rule or the reason",
         "where",
         WHAT_IS_PRINTED,
         "Show and sum only files that meet CONDITION, such as ext=.c,.h or
-eol!=lf or 'lines>1000', in quotes. The columns are ext, text, eol,
-lines, blank and bytes; the operators = and !=, and for numbers <, <=,
-> and >=. May be repeated; all must hold. Skipped entries stay",
+eol!=lf or 'lines>1000', in quotes. The columns are lang, ext, text,
+eol, attr:NAME, lines, blank and bytes; the operators = and !=, and
+for numbers <, <=, > and >=. May be repeated; all must hold. Skipped
+entries stay",
     ),
     (
         "no-binary",
@@ -113,10 +114,13 @@ that has a thousandth of the lines or more",
     (
         "by",
         WHAT_IS_PRINTED,
-        "Sum rows by some of dir, ext, text and eol, separated by commas: --by
-ext prints one row for each extension, --by dir one for the files of
-DIR itself and one for each directory right under DIR, or as deep as
---depth says",
+        "Sum rows by some of dir, lang, ext, text, eol and attr:NAME, separated
+by commas: --by ext prints one row for each extension, --by dir one
+for the files of DIR itself and one for each directory right under
+DIR, or as deep as --depth says, --by attr:team one for each state of
+the Git attribute team; at most 16 attributes. lang is the language of
+the file: the value of its attribute linguist-language, or else what
+the list of lc languages says of its name",
     ),
     (
         "depth",
@@ -197,8 +201,8 @@ GitHub",
     (
         "by",
         WHAT_IS_PRINTED,
-        "Sum rows by some of dir, ext, text and eol, separated by commas. The
-default is ext",
+        "Sum rows by some of dir, lang, ext, text, eol and attr:NAME, separated
+by commas. The default is ext",
     ),
     (
         "sort",

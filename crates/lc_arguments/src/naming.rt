@@ -207,6 +207,9 @@ fn named_by(word: &str) -> Option<Subcommand>
     if word == "diff" {
         return Some(Subcommand::Diff);
     }
+    if word == "languages" {
+        return Some(Subcommand::Languages);
+    }
     None
 }
 

@@ -3,7 +3,7 @@
 ghost use Rattle.std.specs.Prelude.{◌≡◌};
 ghost use Rattle.lc_arguments.specs.Options.{is_of};
 
-/// A command that has arguments.
+/// A command.
 #[derive(Clone, Copy)]
 pub(crate) enum Subcommand {
     /// `lc count`
@@ -16,6 +16,8 @@ pub(crate) enum Subcommand {
     Sum,
     /// `lc diff`
     Diff,
+    /// `lc languages`
+    Languages,
 }
 
 /// The set of the commands that have a certain argument.
@@ -44,6 +46,8 @@ impl Commands {
             Subcommand::Check => self.check,
             Subcommand::Sum => self.sum,
             Subcommand::Diff => self.diff,
+            // It has no arguments.
+            Subcommand::Languages => false,
         }
     }
 }

@@ -205,10 +205,10 @@ const OPTIONS: &[OptionRow] = &[
         kind: Kind::Text,
         of: PRINTED,
         heading: WHAT_IS_PRINTED,
-        help: "Sum rows by some of dir,ext,text,eol",
+        help: "Sum rows by some of dir,lang,ext,text,eol,attr:NAME",
         brief: "Sum rows by these columns",
         example: "lc count --by ext .",
-        completes: Completes::List(&["dir", "ext", "text", "eol"]),
+        completes: Completes::List(&["dir", "lang", "ext", "text", "eol"]),
         ..FLAG
     },
     OptionRow {

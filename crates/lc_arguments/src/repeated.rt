@@ -9,12 +9,16 @@ ghost use Rattle.lc_rules.specs.AttrLines.{is_negated};
 ghost use Rattle.lc_arguments.specs.Repeated.{are_short, has_attribute_name, has_one_line, id_of, is_allowed, lines_text};
 ghost use Rattle.lc_arguments.specs.Explained.{AnswersRepeated, AnswersRepeatedIn, IsRefusal};
 
+use crate::attributes::attributes_asked;
 use crate::condition_text::{condition_of, why_no_condition};
 use crate::request::{ParseExit, refused};
 use clap::ArgMatches;
 use lc_glob::cut_at_first;
 use lc_rules::{MAX_RULE_BYTES, is_attribute_name};
 use std::alloc::{AllocError, Global};
+
+/// The greatest number of attributes that conditions may test.
+const MAX_TESTED: usize = 64;
 
 /// An option that may be used several times, and whose values must have a certain form.
 #[derive(Clone, Copy)]
@@ -68,7 +72,7 @@ impl Repeated {
             Repeated::Attributes => has_attribute_name(value),
             Repeated::Excluded => has_one_line(value),
             Repeated::Included => has_one_line(value) && !is_negated(value),
-            Repeated::Conditions => condition_of(value.as_bytes()).is_some(),
+            Repeated::Conditions => condition_of(&[], value.as_bytes()).is_some(),
         }
     }
 
@@ -86,6 +90,7 @@ impl Repeated {
             Repeated::Included => {
                 ": a pattern has no line feed and does not begin with '!', and all of them have at most 1048576 bytes"
             }
+            Repeated::Conditions if value == "..." => ": conditions test at most 64 attributes",
             Repeated::Conditions => why_no_condition(value.as_bytes()),
         };
         refused(alloc, self.name(), value, why)
@@ -104,12 +109,17 @@ pub fn lines_text(alloc: Global, lines: &[&str]) -> Result<Vec<u8>, AllocError>
     Ok(text)
 }
 
-/// Returns whether the values of an option are short enough. Patterns must fit into one ignore file; other values have no limit.
+/// Returns whether the values of an option are short enough. Patterns must fit into one ignore file, and conditions may test few
+/// attributes.
 fn are_short(alloc: Global, option: Repeated, values: &[&str]) -> Result<bool, AllocError>
     ensures { IfOk result (λ short. short ≡ are_short option (map (λ value. value.now) values.now)) }
 {
     match option {
-        Repeated::Attributes | Repeated::Conditions => Ok(true),
+        Repeated::Attributes => Ok(true),
+        Repeated::Conditions => {
+            let attributes = attributes_asked(alloc, None, values)?;
+            Ok(attributes.len() <= MAX_TESTED)
+        }
         Repeated::Excluded | Repeated::Included => {
             let text = lines_text(alloc, values)?;
             Ok(text.len() <= MAX_RULE_BYTES)

@@ -1,12 +1,12 @@
 //! The requests that the arguments of the program make.
 
-ghost use Rattle.std.specs.Prelude.{◌≡◌, IfErr, IfOk, map, string_bytes};
+ghost use Rattle.std.specs.Prelude.{◌≡◌, IfErr, IfOk, None, map, string_bytes};
 ghost use Rattle.lc_arguments.specs.CommandLine.{bare_lc_app, lc_app, subcommand_apps};
 ghost use Rattle.lc_arguments.specs.CountArgs.{AreCommandsOf, IsCommandOf};
 ghost use Rattle.lc_arguments.specs.Explained.{Explains, IsRefusal, AnswersOthers};
 ghost use Rattle.lc_arguments.specs.Naming.{IsNamingError, IsTextOf, NamesArguments, named_command};
 ghost use Rattle.lc_arguments.specs.Refusals.{IsMessage, IsRefusedVisibly};
-ghost use Rattle.lc_arguments.specs.Words.{AnswersWords};
+ghost use Rattle.lc_arguments.specs.Words.{AnswersWords, count_words};
 
 use crate::check::CheckRequest;
 use crate::count::CountRequest;
@@ -40,6 +40,8 @@ pub enum Request<'w> {
     Sum(SumRequest<'w>),
     /// Compare two directories or reports, as in `lc diff v1.json src`.
     Diff(DiffRequest<'w>),
+    /// Print the list of languages, as in `lc languages`.
+    Languages,
 }
 
 /// Why the program carries out no request.
@@ -72,7 +74,8 @@ fn subcommands<'a>(alloc: Global) -> Result<Vec<Command<'a>>, AllocError>
     let explain = Subcommand::Explain.command(alloc)?;
     let sum = Subcommand::Sum.command(alloc)?;
     let diff = Subcommand::Diff.command(alloc)?;
-    Ok(vec![in alloc; count, sum, diff, check, explain]?)
+    let languages = Subcommand::Languages.command(alloc)?;
+    Ok(vec![in alloc; count, sum, diff, check, explain, languages]?)
 }
 
 /// Makes the clap command of the program, for help, the version, and arguments without a command.
@@ -163,16 +166,10 @@ fn read_others<'w, W: AsStr>(alloc: Global, words: &'w [W]) -> Result<Request<'w
     }
 }
 
-/// Reads the arguments of the program. Each command reads its own arguments, so their values are known to be in range.
-fn read_words<'w, W: AsStr>(alloc: Global, words: &'w [W]) -> Result<Request<'w>, ParseExit>
-    ensures { AnswersWords (map W.text words.entry.now) result }
+/// Reads arguments that request no count.
+fn read_command<'w, W: AsStr>(alloc: Global, words: &'w [W]) -> Result<Request<'w>, ParseExit>
+    ensures { count_words (map W.text words.entry.now) ≡ None → AnswersWords (map W.text words.entry.now) result }
 {
-    if let Some(count) = count_words(words) {
-        return match CountRequest::read(alloc, count) {
-            Ok(asked) => Ok(Request::Count(asked)),
-            Err(no) => Err(no),
-        };
-    }
     let Some((first, rest)) = words.split_first() else {
         return Ok(Request::CheckJoined);
     };
@@ -200,7 +197,26 @@ fn read_words<'w, W: AsStr>(alloc: Global, words: &'w [W]) -> Result<Request<'w>
             Err(no) => Err(no),
         };
     }
+    if first.as_str() == "languages" {
+        return match Subcommand::Languages.parsed(alloc, rest) {
+            Ok(_) => Ok(Request::Languages),
+            Err(no) => Err(no),
+        };
+    }
     read_others(alloc, words)
+}
+
+/// Reads the arguments of the program. Each command reads its own arguments, so their values are known to be in range.
+fn read_words<'w, W: AsStr>(alloc: Global, words: &'w [W]) -> Result<Request<'w>, ParseExit>
+    ensures { AnswersWords (map W.text words.entry.now) result }
+{
+    match count_words(words) {
+        None => read_command(alloc, words),
+        Some(count) => match CountRequest::read(alloc, count) {
+            Ok(asked) => Ok(Request::Count(asked)),
+            Err(no) => Err(no),
+        },
+    }
 }
 
 /// Makes the text of a refusal that quotes the arguments in escaped form, by reading escaped copies of them. `why` is the refusal that

@@ -28,6 +28,7 @@ impl Subcommand {
             Subcommand::Check => "check",
             Subcommand::Sum => "sum",
             Subcommand::Diff => "diff",
+            Subcommand::Languages => "languages",
         }
     }
 
@@ -38,6 +39,7 @@ impl Subcommand {
             Subcommand::Check => help::CHECK,
             Subcommand::Sum => help::SUM,
             Subcommand::Diff => help::DIFF,
+            Subcommand::Languages => help::LANGUAGES,
         }
     }
 

@@ -22,6 +22,9 @@ const SUM: &str = "lc count --format json . | lc sum";
 /// A comparison of the current directory with itself.
 const DIFF: &str = "lc diff . .";
 
+/// The list of languages.
+const LANGUAGES: &str = "lc languages";
+
 /// How to show the version.
 const VERSION: &str = "lc --version";
 
@@ -32,6 +35,7 @@ const COMMANDS: &[(&str, &str)] = &[
     ("check", CHECK),
     ("sum", SUM),
     ("diff", DIFF),
+    ("languages", LANGUAGES),
     ("help", "lc --help"),
 ];
 
@@ -75,6 +79,7 @@ fn word_meant(word: &str) -> Option<&'static str> {
         "--dir" | "--dirs" | "--by-dir" => Some("lc count --by dir ."),
         "--max-depth" => Some("lc count --by dir --depth 2 ."),
         "--by-ext" => Some("lc count --by ext ."),
+        "--by-lang" | "--lang" | "--language" => Some("lc count --by lang ."),
         "--text" => Some("lc count --by ext,text ."),
         "--by-file" | "-f" => Some("lc count --files ."),
         "--exit-code" | "--fail" => Some("lc count --where 'lines>1000' --fail-if-any ."),
@@ -164,8 +169,7 @@ fn known_options(
         if row.of.has(command) && !row.heading.is_empty() {
             let meant = match command {
                 Subcommand::Count => row.example,
-                Subcommand::Explain | Subcommand::Check | Subcommand::Sum | Subcommand::Diff =>
-                    other,
+                _ => other,
             };
             known.push((row.name, meant))?;
         }
@@ -326,5 +330,6 @@ pub(crate) fn advice_for<W: AsStr>(
         Subcommand::Check => option_or(alloc, quoted(problem), command, CHECK),
         Subcommand::Sum => option_or(alloc, quoted(problem), command, SUM),
         Subcommand::Diff => option_or(alloc, quoted(problem), command, DIFF),
+        Subcommand::Languages => option_or(alloc, quoted(problem), command, LANGUAGES),
     }
 }

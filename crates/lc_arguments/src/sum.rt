@@ -7,6 +7,7 @@ ghost use Rattle.lc_arguments.specs.Explained.{AnswersSumWords, AnswersIn};
 ghost use Rattle.lc_arguments.specs.Words.{AsksNoSum, IsSumOf};
 ghost use Rattle.lc_arguments.specs.declared.option_row.Subcommand.TheVariants.{Sum};
 
+use crate::attributes::attributes_in;
 use crate::combinations::table_misfit;
 use crate::conditions::conditions_in;
 use crate::numbers::Cuts;
@@ -26,6 +27,9 @@ pub struct SumRequest<'w> {
     pub left_out: bool,
     /// How the table is printed.
     pub table: TableRequest,
+    /// The names of the columns of attributes, such as `attr:team`, and of languages, `lang`: first those of `--by`, of which `lang` is the
+    /// first, and then the others that conditions test.
+    pub attributes: Vec<&'w str>,
     /// Show only files that meet all of these conditions.
     pub conditions: Vec<Condition<'w>>,
     /// Exit with status 4 if a file of the reports meets all of `conditions`.
@@ -41,11 +45,13 @@ fn request_in<'w>(alloc: Global, matches: &ArgMatches<'w>) -> Result<SumRequest<
 {
     let cuts = Cuts::read(matches);
     let table = table_in(alloc, matches, cuts)?;
-    let conditions = conditions_in(alloc, matches)?;
+    let attributes = attributes_in(alloc, matches)?;
+    let conditions = conditions_in(alloc, matches, &attributes)?;
     let reports = reports_in(alloc, matches)?;
     Ok(SumRequest {
         left_out: matches.get_flag("left-out"),
         table,
+        attributes,
         conditions,
         fail_if_any: matches.get_flag("fail-if-any"),
         reports,

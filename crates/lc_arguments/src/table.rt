@@ -1,6 +1,7 @@
 //! The options of the table that a command prints, such as `--format`, `--by` and `--sort`.
 
-ghost use Rattle.std.specs.Prelude.{◌≡◌, ◌≢◌, false, MatchOption, option_map};
+ghost use Rattle.std.specs.Prelude.{◌≡◌, ◌≢◌, [], true, false, MatchOption, option_map};
+ghost use Rattle.lc_glob.specs.Pieces.{pieces_left, pieces_of};
 ghost use Rattle.clap.specs.Matches.{found_of};
 ghost use Rattle.clap.specs.Walk.{rows_of};
 ghost use Rattle.lc_sheet.specs.declared.table_options.Columns.{Columns as ColumnsModel};
@@ -9,15 +10,21 @@ ghost use Rattle.lc_sheet.specs.declared.table_options.Output.{Output as OutputM
 ghost use Rattle.lc_sheet.specs.Keys.{key_name};
 ghost use Rattle.lc_arguments.specs.Combinations.{is_picture};
 ghost use Rattle.lc_arguments.specs.Explained.{AnswersColumns, AnswersFormat, AnswersSort, AnswersTable, AnswersTableIn, IsRefusal};
-ghost use Rattle.lc_arguments.specs.TableWords.{IsColumnsText, default_order, is_for_reading, is_key_name, number_of};
+ghost use Rattle.lc_arguments.specs.TableWords.{IsColumnsText, IsKeyAfter, IsNoKeyAfter, default_order, is_fixed, is_for_reading};
+ghost use Rattle.lc_arguments.specs.TableWords.{is_key_name, max_columns, number_of};
+ghost use Rattle.lc_arguments.specs.Texts.{comma};
 ghost use Rattle.lc_arguments.specs.TableWords.{options_in, order_in, order_word, output_in, output_word};
 
+use crate::attributes::{is_named, names_column};
 use crate::numbers::Cuts;
 use crate::request::{ParseExit, refused, unfit};
 use clap::ArgMatches;
 use lc_glob::cut_at_first;
 use lc_sheet::{Columns, Format, KEYS, Key, Number, Order, Output, TableOptions};
 use std::alloc::Global;
+
+/// The greatest number of attributes that rows may be grouped by.
+const MAX_ATTRIBUTES: u8 = 16;
 
 /// The table that a command prints, as in `--format table --by ext --sort lines`.
 #[derive(Clone, Copy)]
@@ -134,16 +141,45 @@ fn order_named(name: &str) -> Option<Order>
     }
 }
 
-/// Returns the key that is named.
+/// Returns the key that has this name.
 fn key_named(name: &[u8]) -> Option<Key>
-    ensures { MatchOption result (is_key_name name.now ≡ false) (λ key. key_name key ≡ name.now) }
+    ensures { MatchOption result (is_key_name name.now ≡ false)
+        (λ key. (key_name [] key ≡ name.now) × (is_fixed key ≡ true)) }
 {
     for key in &KEYS {
-        if key.name().as_bytes() == name {
+        if key.name(&[]).as_bytes() == name {
             return Some(*key);
         }
     }
     None
+}
+
+/// Returns how many columns of attributes and of languages these names may have: `lang` is one besides the attributes.
+fn max_columns(names: &str) -> u8
+    ensures { result ≡ max_columns (pieces_of comma names.now) }
+{
+    if is_named(b"lang", Some(names.as_bytes())) {
+        MAX_ATTRIBUTES + 1
+    } else {
+        MAX_ATTRIBUTES
+    }
+}
+
+/// Returns the key of the next column that a name names, if these columns lack the key. The `others` are the names that follow, separated
+/// by commas: an attribute may not be among them, nor `lang` twice. There may be at most `most` attributes, with `lang`.
+fn key_added(columns: Columns, name: &[u8], others: Option<&[u8]>, most: u8) -> Option<Key>
+    ensures { MatchOption result (IsNoKeyAfter most columns name.now (pieces_left comma others.entry))
+        (IsKeyAfter most columns name.now (pieces_left comma others.entry)) }
+{
+    if names_column(name) {
+        return if columns.attributes >= most || is_named(name, others) {
+            None
+        } else {
+            Some(Key::Attribute(columns.attributes))
+        };
+    }
+    let key = key_named(name)?;
+    if columns.has(key) { None } else { Some(key) }
 }
 
 /// Reads the names of columns, separated by commas, each at most once. Directories are cut after `depth` names.
@@ -151,14 +187,14 @@ fn columns_named(names: &str, depth: u32) -> Option<Columns>
     ensures { MatchOption result ((c : ColumnsModel) → ¬ IsColumnsText names.entry.now depth c)
         (λ c. IsColumnsText names.entry.now depth c) }
 {
+    let most = max_columns(names);
     let mut columns = Columns::NONE;
     let mut left = Some(names.as_bytes());
     'names: while let Some(rest) = left {
         let (name, others) = cut_at_first(b',', rest);
-        let key = key_named(name)?;
-        if columns.has(key) {
+        let Some(key) = key_added(columns, name, others, most) else {
             return None;
-        }
+        };
         columns = columns.with(key, depth);
         left = others;
     }
@@ -204,7 +240,7 @@ fn columns_of(
             alloc,
             "by",
             names,
-            ": choose from dir, ext, text and eol, each once, separated by commas",
+            ": choose from dir, lang, ext, text, eol and attr:NAME, each once, separated by commas; at most 16 attributes",
         ));
     };
     if depth.is_some() && columns.dir.is_none() {

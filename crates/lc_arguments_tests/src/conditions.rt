@@ -42,15 +42,15 @@ const REFUSED: &[Case] = &[
     ("lines", ": it has no operator; quote a condition"),
     (
         "=.c",
-        ": the columns are ext, text, eol, lines, blank and bytes",
+        ": the columns are lang, ext, text, eol, attr:NAME, lines, blank and bytes",
     ),
     (
         " lines>1",
-        ": the columns are ext, text, eol, lines, blank and bytes",
+        ": the columns are lang, ext, text, eol, attr:NAME, lines, blank and bytes",
     ),
     (
         "files>1",
-        ": the columns are ext, text, eol, lines, blank and bytes",
+        ": the columns are lang, ext, text, eol, attr:NAME, lines, blank and bytes",
     ),
     (
         "dir=src",
@@ -92,7 +92,7 @@ const REFUSED: &[Case] = &[
 ];
 
 fn push_condition(text: &mut String, condition: &Condition<'_>) -> Result<(), AllocError> {
-    text.push_str(condition.column.name())?;
+    text.push_str(condition.column.word(&[]))?;
     match condition.test {
         Test::OneOf(values) => {
             let values = str::from_utf8(values).unwrap_or("?");
@@ -125,6 +125,7 @@ fn answer_text(
         Ok(Request::Explain(_request)) => Ok(String::new(alloc)),
         Ok(Request::Sum(_request)) => Ok(String::new(alloc)),
         Ok(Request::Diff(_request)) => Ok(String::new(alloc)),
+        Ok(Request::Languages) => Ok(String::new(alloc)),
         Err(ParseExit::Shown(text)) => format!(in alloc; "{text}"),
         Err(ParseExit::Refused(text)) => format!(in alloc; "{text}"),
         Err(ParseExit::Memory) => Err(AllocError),
@@ -184,6 +185,9 @@ fn conditions_on_values(rt: HostRuntime) -> Result<(), Fail> {
     assert!(rt; holds(alloc, "eol=lf,crlf", Value::Word("cr"))? == (false, false));
     assert!(rt; holds(alloc, "text=-", Value::Missing)? == (true, false));
     assert!(rt; holds(alloc, "text!=auto", Value::Missing)? == (true, false));
+    assert!(rt; holds(alloc, "attr:a=set,-", Value::Flag(true))? == (true, true));
+    assert!(rt; holds(alloc, "attr:a!=unset", Value::Flag(false))? == (false, true));
+    assert!(rt; holds(alloc, "attr:a=", Value::Missing)? == (false, true));
     assert!(rt; holds(alloc, "lines<10", Value::Number(9))? == (true, true));
     assert!(rt; holds(alloc, "lines<10", Value::Number(10))? == (false, true));
     assert!(rt; holds(alloc, "lines<=10", Value::Number(10))? == (true, true));

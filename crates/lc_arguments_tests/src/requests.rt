@@ -29,7 +29,8 @@ const COUNTS: &[Case] = &[
     ),
     (
         "count --exclude-from rules --attributes-from attributes --without a --without=b=1 --only src/ --only c .",
-        "count .: 4 threads, 65536 directories, no format by no columns, excludes rules, attributes attributes, without a, without b=1, only src, only c",
+        "count .: 4 threads, 65536 directories, no format by no columns, excludes rules, attributes attributes, without a, \
+         without b=1, only src, only c",
     ),
     (
         "count -j 8 --exclude a --exclude=!b --include *.c --no-ignore .",
@@ -92,6 +93,10 @@ const SHORT_COUNTS: &[Case] = &[
         "count ..: 4 threads, 65536 directories, no format by no columns",
     ),
     (
+        "./languages",
+        "count ./languages: 4 threads, 65536 directories, no format by no columns",
+    ),
+    (
         "./src",
         "count ./src: 4 threads, 65536 directories, no format by no columns",
     ),
@@ -123,6 +128,7 @@ const SHORT_COUNTS: &[Case] = &[
 
 const OTHERS: &[Case] = &[
     ("", "check joined"),
+    ("languages", "languages"),
     ("check .gitignore", "check .gitignore"),
     ("check --explain a", "check a, explained"),
     ("check -0 a", "check a, ended by NUL"),
@@ -158,6 +164,16 @@ const EXITS: &[Case] = &[
     ("explain --help .", "shown: Show which rule"),
     ("check -h", "shown: Match paths on standard input"),
     ("check --help", "shown: Match paths on standard input"),
+    ("languages -h", "shown: Print the list of languages\n"),
+    ("languages --help", "shown: Print the list of languages\n"),
+    (
+        "languages x",
+        "refused: error: unexpected argument 'x' found\n\nUsage: lc languages\n",
+    ),
+    (
+        "languages --by ext",
+        "refused: error: unexpected argument '--by' found\n\nUsage: lc languages\n",
+    ),
     (
         "count --threads 17 .",
         "refused: error: invalid value for '--threads <N>': '17' is no number from 1 to 16\n\nFor more",
@@ -172,7 +188,7 @@ const EXITS: &[Case] = &[
     ),
     (
         "count --by ext,ext .",
-        "refused: error: invalid value 'ext,ext' for '--by <COLUMNS>': choose from dir, ext, text and eol, each once",
+        "refused: error: invalid value 'ext,ext' for '--by <COLUMNS>': choose from dir, lang, ext, text, eol and attr:NAME, each once",
     ),
     (
         "count --without=-x .",

@@ -45,7 +45,7 @@ fn push_columns(text: &mut String, by: Option<Columns>) -> Result<(), AllocError
     }
     for key in REPORT_KEYS {
         if by.has(key) {
-            write!(text, " {}", key.name())?;
+            write!(text, " {}", key.name(&[]))?;
         }
     }
     Ok(())
@@ -193,6 +193,7 @@ pub(crate) fn answer_text(
         Ok(Request::Explain(request)) => explain_text(alloc, &request),
         Ok(Request::Sum(request)) => sum_text(alloc, &request),
         Ok(Request::Diff(request)) => diff_text(alloc, &request),
+        Ok(Request::Languages) => format!(in alloc; "languages"),
         Err(ParseExit::Shown(text)) => format!(in alloc; "shown: {text}"),
         Err(ParseExit::Refused(text)) => format!(in alloc; "refused: {text}"),
         Err(ParseExit::Memory) => Err(AllocError),

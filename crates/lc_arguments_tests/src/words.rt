@@ -24,6 +24,8 @@ const FIRST_WORDS: &[(&'static str, bool, bool)] = &[
     ("explain", false, false),
     ("sum", false, false),
     ("diff", false, false),
+    ("languages", false, false),
+    ("./languages", true, false),
     ("help", false, false),
     ("-h", false, false),
     ("--help", false, false),

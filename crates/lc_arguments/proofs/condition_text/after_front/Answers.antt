@@ -1,6 +1,6 @@
 use Rattle.std.proofs.Common.{◌≡◌, ℕ, true, false, cond, List, length, take, drop, Option, Some, None, option_map, ap, sym, ◌∙◌, ◌+◌}
 use Rattle.std.specs.{Borrow.Bor, Prelude.MatchOption, Str.bytes_eq}
-use Rattle.lc_arguments.specs.ConditionWords.{after_front}
+use Rattle.lc_arguments.specs.Texts.{after_front}
 use Rattle.lc_arguments.proofs.condition_text.after_front.Goals as goal
 
 stripped : (front text : List ℕ) (r : Option (Bor (List ℕ)))

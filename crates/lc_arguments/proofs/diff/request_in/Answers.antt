@@ -21,6 +21,12 @@ returns-in_err-table c =
     (numbers_within (rules_in Diff options) (found_of c.args.matches.now) are refl refl refl refl)).cuts)))
     c.from_residual-in_err-table.ensures.1 c.in_err-table.ensures
 
+pub returns-in_err-attributes : goal.returns-in_err-attributes
+returns-in_err-attributes c =
+    let rows = rows_of (found_of c.args.matches.now) in
+    passed_on _ (Misvalue rows) _ c.from_residual-in_err-attributes.result c.in_err-attributes.field-0.0 (λ bad are. inl (inl bad))
+    c.from_residual-in_err-attributes.ensures.1 c.in_err-attributes.ensures
+
 pub returns-in_err-conditions : goal.returns-in_err-conditions
 returns-in_err-conditions c =
     let rows = rows_of (found_of c.args.matches.now) in
@@ -42,7 +48,8 @@ returns c = λ are.
         files = table.files;
       };
       no_share = refl;
-      conditions = c.in_ok-conditions.ensures;
+      attributes = c.in_ok-attributes.ensures;
+      conditions = rw c.deref.ensures.value at c.in_ok-conditions.ensures;
       fail_if_any = flag_of rows f (codes "fail-if-any") c.get_flag.result refl c.get_flag.ensures.value c.get_flag.ensures.other;
       all = flag_of rows f (codes "all") c.get_flag-2.result refl c.get_flag-2.ensures.value c.get_flag-2.ensures.other;
       old = text_or rows f (codes "OLD") c.get_str.result _ c.unwrap_or.result refl c.get_str.ensures refl c.unwrap_or.ensures;

@@ -1,5 +1,5 @@
 use Rattle.lc_glob.specs.Pieces.{pieces_left, pieces_of}
-use Rattle.lc_arguments.specs.TableWords.{comma}
+use Rattle.lc_arguments.specs.Texts.{comma}
 use Rattle.lc_arguments.proofs.ColumnNames.{StillNames, left_over}
 use Rattle.lc_arguments.proofs.table.columns_named.Given as goal
 

@@ -1,0 +1,42 @@
+-- Names of attributes, and of their columns, are texts.
+use Rattle.std.proofs.Common.{◌≡◌, ℕ, nat_lt, ◌<◌, ◌&&◌, Bool, true, false, cond, List, [], ◌∷◌, drop, take, Some, None, refl, subst, sym}
+use Rattle.std.proofs.{Common.arith, lemmas.{Bool.Decides.nat_tests, List.take-append-drop, Slice.Eq.bytes_eq-Decides}}
+use Rattle.std.proofs.lemmas.{List.Elements.{All-cons, All-nil}, Str.{IsUtf8-append, IsUtf8-from_ascii}}
+use Rattle.std.proofs.lemmas.Str.Ascii.{IsAscii-from_all}
+use Rattle.std.specs.{List.{All, list_all}, Str.{IsUtf8, bytes_eq}}
+use Rattle.lc_sheet.specs.AttributeColumns.{attribute_front}
+use Rattle.lc_arguments.specs.Texts.{after_front}
+use Rattle.lc_rules.specs.AttrWords.{is_name, is_name_byte}
+
+small : (b : ℕ) → is_name_byte b ≡ true → b < 128
+small b is = grind (arith, nat_tests)
+
+both : (x y : Bool) → (x && y) ≡ true → (x ≡ true) × (y ≡ true)
+both true y is = (refl, is)
+both false y is = absurd (cc)
+
+all_small : (p : ℕ → Bool) → ((b : ℕ) → p b ≡ true → b < 128) → (bs : List ℕ) → list_all p bs ≡ true → All (λ b. b < 128) bs
+all_small p low [] are = All-nil (λ b. b < 128)
+all_small p low (b ∷ bs) are =
+    let parts = both (p b) (list_all p bs) are in All-cons (λ c. c < 128) b bs (low b parts.0) (all_small p low bs parts.1)
+
+front_small : (b : ℕ) → nat_lt b 128 ≡ true → b < 128
+front_small b is = grind (arith, nat_tests)
+
+-- so they are UTF-8
+pub name_utf8 : (bs : List ℕ) → is_name bs ≡ true → IsUtf8 bs
+name_utf8 [] is = absurd (cc)
+name_utf8 (b ∷ bs) is = IsUtf8-from_ascii (b ∷ bs) (IsAscii-from_all (b ∷ bs) (all_small is_name_byte small (b ∷ bs) (both _ _ is).1))
+
+-- and so are the names of their columns
+pub front_utf8 : (name attribute : List ℕ) → after_front attribute_front name ≡ Some attribute → is_name attribute ≡ true → IsUtf8 name
+front_utf8 name attribute after is = go (bytes_eq (take 5 name) attribute_front) refl after
+  where
+    go : (b : Bool) → bytes_eq (take 5 name) attribute_front ≡ b → cond b (Some (drop 5 name)) None ≡ Some attribute → IsUtf8 name
+    go true e same =
+        let rest : drop 5 name ≡ attribute = cc in
+        let ascii = IsAscii-from_all attribute_front (all_small (λ b. nat_lt b 128) front_small attribute_front refl) in
+        let front = subst IsUtf8 (sym ((bytes_eq-Decides (take 5 name) attribute_front).0 e)) (IsUtf8-from_ascii attribute_front ascii) in
+        subst IsUtf8 (take-append-drop 5 name)
+        (IsUtf8-append (take 5 name) (drop 5 name) front (subst IsUtf8 (sym rest) (name_utf8 attribute is)))
+    go false e same = absurd (cc)
