@@ -1,7 +1,7 @@
 -- What is found has the files that the options ask for.
-use Rattle.std.proofs.Common.{◌≡◌, ℕ, Bool, true, false, ◌&&◌, List, [], ◌∷◌, Ok, refl, ◌∙◌, ap}
+use Rattle.std.proofs.Common.{◌≡◌, ℕ, Bool, true, false, ◌&&◌, List, [], ◌∷◌, Option, Some, None, Ok, refl, ◌∙◌, ap}
 use Rattle.std.specs.List.{AllZip, list_all}
-use Rattle.lc_program.specs.Finds.{IsWalkedBelow}
+use Rattle.lc_program.specs.{Finds.IsWalkedBelow, LanguageColumns.{HasLanguages, HasLanguagesAt, language_place}}
 use Rattle.lc_reports.specs.Joined.{IsJoined}
 use Rattle.lc_tree.specs.Trees.{Listings, Contents}
 use Rattle.lc_walk.proofs.ReportTotals.{walked_lists}
@@ -31,3 +31,11 @@ module _ (list : List ℕ → List ℕ → Listings) (give : List ℕ → List �
   -- and of one
   pub one_listed : (d : List ℕ) (r : Report) → Walks (list d) (give d) o (Ok r) → o.lists.files ≡ true → r.lists.files ≡ true
   one_listed d r walked asked = ap (λ (l : ReportLists). l.files) (walked_lists (list d) (give d) o r walked) ∙ asked
+
+-- a report whose files got languages has the lists that it had
+pub languages_listed : (columns : List (List ℕ)) (r s : Report) → HasLanguages columns r s → s.lists ≡ r.lists
+languages_listed columns r s = go (language_place columns)
+  where
+    go : (place : Option ℕ) → HasLanguagesAt place r s → s.lists ≡ r.lists
+    go None is = ap (λ (report : Report). report.lists) is
+    go (Some place) is = is.lists

@@ -1,4 +1,5 @@
 mod Appending
+mod AttributesNamed
 mod CountsShown
 mod Endings
 mod FiltersAsked

@@ -9,14 +9,16 @@ use Rattle.lc_io.specs.declared.printing.PrintFault.TheVariants as print
 
 -- a table that was not written whole
 pub run_stops : {O : Type 0} (may_take : O → List ℕ → Result ℕ Failed → O → Type 0) (walks : Result Report WalkFault → Type 0)
-    (counted : List ℕ) (conditions : List ConditionModel) (options : TableOptions) (r left : Report) (fault : PrintFault)
+    (counted : List ℕ) (conditions : List ConditionModel) (options : TableOptions) (attributes : List (List ℕ)) (r left : Report)
+    (fault : PrintFault)
     (answer : Result Report RunFault) (out wrote : O) → walks (Ok r)
-    → AnswersTable may_take counted conditions options r left out (Err fault) wrote → IsErrAnd answer (λ e. e ≡ table_fault fault)
-    → AnswersRun may_take walks counted conditions options out answer wrote
-run_stops may_take walks counted conditions options r left fault (Ok shown) out wrote walked stopped is = absurd is
-run_stops may_take walks counted conditions options r left print.Write (Err e) out wrote walked stopped is =
+    → AnswersTable may_take counted conditions options attributes r left out (Err fault) wrote
+    → IsErrAnd answer (λ e. e ≡ table_fault fault)
+    → AnswersRun may_take walks counted conditions options attributes out answer wrote
+run_stops may_take walks counted conditions options attributes r left fault (Ok shown) out wrote walked stopped is = absurd is
+run_stops may_take walks counted conditions options attributes r left print.Write (Err e) out wrote walked stopped is =
     rw is (r, walked, (left, stopped))
-run_stops may_take walks counted conditions options r left print.Memory (Err e) out wrote walked stopped is = rw is stopped
+run_stops may_take walks counted conditions options attributes r left print.Memory (Err e) out wrote walked stopped is = rw is stopped
 
 -- a text that was written whole
 pub text_is_written : {O : Type 0} (may_take : O → List ℕ → Result ℕ Failed → O → Type 0) (Is : List ℕ → Type 0) (text taken : List ℕ)

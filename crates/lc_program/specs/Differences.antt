@@ -5,9 +5,8 @@ use Rattle.lc_arguments.specs.declared.table.TableRequest.{TableRequest}
 use Rattle.lc_changes.specs.{ChangeSheets.{AreChangesOf, ChangesModel}, declared.options.ChangeOptions.ChangeOptions}
 use Rattle.lc_formats.specs.Texts.{IsTextIn}
 use Rattle.lc_io.specs.{Reads.Answer, Writes.{StopsWriting, Writes}, declared.{printing.PrintFault.PrintFault, source.Failed.Failed}}
-use Rattle.lc_level.specs.NamedAttributes.{attributes_of}
 use Rattle.lc_program.specs.{Causes.print_cause, Choices.AnswersChoices, Replies.{IsReplyWith, Reply}, Sides.GivesSides, Systems.SystemMay}
-use Rattle.lc_program.specs.WalkRequests.{IsPrepared, IsUnprepared}
+use Rattle.lc_program.specs.WalkRequests.{IsPrepared, IsUnprepared, columns_of, named_in}
 use Rattle.lc_program.specs.declared.{answered.Answered.TheVariants.Compared, cause.Cause.{Cause, TheVariants.Memory}}
 use Rattle.lc_program.specs.declared.comparison.Comparison.{Comparison}
 use Rattle.lc_rows.specs.Kept.{IsKept}
@@ -21,7 +20,7 @@ use Rattle.lc_io.specs.declared.printing.PrintFault.TheVariants as print
 
 -- the columns of a comparison's rows: the extension alone if the command line names no columns
 abbrev pub compared_columns : TableRequest → Columns
-compared_columns s = unwrap_or s.by (record { dir = None; ext = true; text = false; eol = false })
+compared_columns s = unwrap_or s.by (record { dir = None; attributes = 0; ext = true; text = false; eol = false })
 
 -- the order of a comparison's rows: the one that the command line names, or else the largest changes of lines first if the text is for
 -- reading, and by name otherwise
@@ -50,32 +49,33 @@ compared_lists d = record { files = (compared_needs d).files; left_out = false }
 -- ---- what is printed
 
 -- a text is that of the changes from one report to another, and `differ` is whether there are changes
-pub record IsChangesText (options : ChangeOptions) (old new : Report) (text : List ℕ) (differ : Bool) : Type 0 where
+pub record IsChangesText (options : ChangeOptions) (attributes : List (List ℕ)) (old new : Report) (text : List ℕ)
+    (differ : Bool) : Type 0 where
   pub changes : ChangesModel
-  pub are_changes : AreChangesOf options old new changes
+  pub are_changes : AreChangesOf options attributes old new changes
   pub is_text : IsTextIn options.format changes.sheet text
   pub is_differ : differ ≡ changes.some_differ
 
 module _ {O : Type 0} (may_take : O → List ℕ → Result ℕ Failed → O → Type 0) where
   -- how the changes between two reports are printed: they were written whole; or a write failed; or an allocation failed, and nothing was
   -- written
-  abbrev pub AnswersChanges : ChangeOptions → Report → Report → O → Result Bool PrintFault → O → Type 0
-  AnswersChanges options old new out (Ok differ) wrote =
-      (text : List ℕ) × IsChangesText options old new text differ × Writes may_take out text wrote
-  AnswersChanges options old new out (Err print.Write) wrote =
-      (text : List ℕ) × (differ : Bool) × IsChangesText options old new text differ × StopsWriting may_take out text wrote
-  AnswersChanges options old new out (Err print.Memory) wrote = wrote ≡ out
+  abbrev pub AnswersChanges : ChangeOptions → List (List ℕ) → Report → Report → O → Result Bool PrintFault → O → Type 0
+  AnswersChanges options attributes old new out (Ok differ) wrote =
+      (text : List ℕ) × IsChangesText options attributes old new text differ × Writes may_take out text wrote
+  AnswersChanges options attributes old new out (Err print.Write) wrote =
+      (text : List ℕ) × (differ : Bool) × IsChangesText options attributes old new text differ × StopsWriting may_take out text wrote
+  AnswersChanges options attributes old new out (Err print.Memory) wrote = wrote ≡ out
 
   -- how the changes between what two reports have that meets the conditions are printed: they were written whole; or not, or not whole; or
   -- an allocation failed
   abbrev pub PrintsChanges : Format → DiffRequest → Report → Report → O → Result Comparison Cause → O → Type 0
   PrintsChanges other d old new out (Ok c) wrote =
       IsKept d.conditions.items old c.old × IsKept d.conditions.items new c.new
-      × AnswersChanges (change_options other d) c.old c.new out (Ok c.differ) wrote
+      × AnswersChanges (change_options other d) (columns_of d.attributes.items) c.old c.new out (Ok c.differ) wrote
   PrintsChanges other d old new out (Err cause) wrote =
       ((cause ≡ Memory) × (wrote ≡ out))
       ⊎ ((a b : Report) × (fault : PrintFault) × IsKept d.conditions.items old a × IsKept d.conditions.items new b
-      × (cause ≡ print_cause fault) × AnswersChanges (change_options other d) a b out (Err fault) wrote)
+      × (cause ≡ print_cause fault) × AnswersChanges (change_options other d) (columns_of d.attributes.items) a b out (Err fault) wrote)
 
   -- the changes between both sides are printed; or a side has no report, and nothing was written
   abbrev pub PrintsSides : Format → DiffRequest → Result (Report × Report) Cause → O → Result Comparison Cause → O → Type 0
@@ -87,15 +87,16 @@ module _ (may : SystemMay) {I O : Type 0} (may_give : I → ℕ → Answer → I
   -- by these options of walks, both sides were counted or read, and their changes were printed
   abbrev pub ComparesSides : Options → I → O → Reply → I → O → Type 0
   ComparesSides o input out reply read wrote =
-      (sides : Result (Report × Report) Cause) × GivesSides may may_give d.walk o (compared_needs d) d.old.now d.new.now input sides read
-      × ((answer : Result Comparison Cause) × IsReplyWith Compared (attributes_of d.walk.filters.without.items) answer reply
+      (sides : Result (Report × Report) Cause) × GivesSides may may_give d.walk o (columns_of d.attributes.items) (compared_needs d)
+      d.old.now d.new.now input sides read
+      × ((answer : Result Comparison Cause) × IsReplyWith Compared (named_in d.walk d.attributes.items) answer reply
       × PrintsSides may_take other d sides out answer wrote)
 
   -- how a comparison with fitting options is answered: the sides were compared as the command line requests; or the walks could not be
   -- prepared, and nothing was written
   abbrev pub AnswersSides : I → O → Reply → I → O → Type 0
   AnswersSides input out reply read wrote =
-      ((o : Options) × (between : I) × IsPrepared may may_give d.walk (compared_lists d) input o between
+      ((o : Options) × (between : I) × IsPrepared may may_give d.walk d.attributes.items (compared_lists d) input o between
       × ComparesSides o between out reply read wrote)
       ⊎ ((cause : Cause) × IsUnprepared may may_give d.walk input cause read × (reply ≡ Err cause) × (wrote ≡ out))
 

@@ -46,9 +46,10 @@ LacksPatterns patterns cause =
 abbrev pub words_of : Bool → List (List ℕ) → List (List ℕ)
 words_of archive without = cond archive (codes "export-ignore" ∷ without) without
 
--- the filters that the command line requests, with the text of the ignore file and with the attribute file that it names, without paths
-abbrev pub filters_of : FilterRequest → Option (List ℕ) → Option AttrFileModel → FiltersModel
-filters_of asked text attributes = record {
+-- the filters that the command line requests, with the attributes whose states files are to have, with the text of the ignore file and with
+-- the attribute file that it names, without paths
+abbrev pub filters_of : FilterRequest → List (List ℕ) → Option (List ℕ) → Option AttrFileModel → FiltersModel
+filters_of asked names text attributes = record {
   exclude_from = text;
   attributes_from = attributes;
   exclude = patterns_text (map (λ pattern. pattern.now) asked.exclude.items);
@@ -56,7 +57,7 @@ filters_of asked text attributes = record {
   no_ignore = asked.no_ignore;
   without = words_of asked.archive (map (λ word. word.now) asked.without.items);
   only = [];
-  asked = [];
+  asked = names;
 }
 
 module _ (holds : List ℕ → Contents) where
@@ -103,9 +104,9 @@ module _ (holds : List ℕ → Contents) (may_unread : List ℕ → Option Unrea
       ⊎ (LacksAttributes asked.attributes_from cause
       ⊎ (LacksPatterns asked.exclude.items cause ⊎ LacksPatterns asked.include.items cause))
 
-  -- the filters that the command line requests, without paths, or why there are none
-  abbrev pub AnswersFilters : FilterRequest → Result FiltersModel Cause → Type 0
-  AnswersFilters asked (Ok f) =
+  -- the filters that the command line requests, with these attributes for files and without paths, or why there are none
+  abbrev pub AnswersFilters : FilterRequest → List (List ℕ) → Result FiltersModel Cause → Type 0
+  AnswersFilters asked names (Ok f) =
       (text : Option (List ℕ)) × Excludes holds asked.exclude_from text
-      × ((file : Option AttrFileModel) × Assigns holds asked.attributes_from file × (f ≡ filters_of asked text file))
-  AnswersFilters asked (Err cause) = LacksRules asked cause
+      × ((file : Option AttrFileModel) × Assigns holds asked.attributes_from file × (f ≡ filters_of asked names text file))
+  AnswersFilters asked names (Err cause) = LacksRules asked cause

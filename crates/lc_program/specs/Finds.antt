@@ -2,7 +2,8 @@
 use Rattle.std.specs.{Prelude.{◌≡◌, ◌⊎◌, ℕ, List, [], ◌∷◌, ◌++◌, String, Result, Ok, Err, codes, string_bytes}, Global.Global, List.AllZip}
 use Rattle.std.specs.List.{Contains}
 use Rattle.lc_arguments.specs.Directories.{unslashed}
-use Rattle.lc_program.specs.{Causes.walk_cause, declared.cause.Cause.{Cause, TheVariants.{InDirectory, Memory, SumsTooLarge}}}
+use Rattle.lc_program.specs.{Causes.walk_cause, LanguageColumns.HasLanguages}
+use Rattle.lc_program.specs.declared.cause.Cause.{Cause, TheVariants.{InDirectory, Memory, SumsTooLarge}}
 use Rattle.lc_reports.specs.{Joined.{Fits, IsJoined}, Named.IsNamed}
 use Rattle.lc_text.specs.Visible.{visible_bytes}
 use Rattle.lc_walk.specs.declared.{report.Report.Report, walk_fault.WalkFault.WalkFault}
@@ -59,3 +60,10 @@ module _ (walks : List ℕ → Result Report WalkFault → Type 0) where
   FindsNone [] cause = JoinsNone [] cause
   FindsNone (directory ∷ []) cause = (fault : WalkFault) × walks directory (Err fault) × (cause ≡ walk_cause fault)
   FindsNone (first ∷ second ∷ others) cause = JoinsNone (first ∷ second ∷ others) cause
+
+  -- the report of a count of directories, with languages where one of these columns shows them, or why there is none
+  abbrev pub FindsFor : (columns directories : List (List ℕ)) → Report → Type 0
+  FindsFor columns directories s = (r : Report) × Finds directories r × HasLanguages columns r s
+
+  abbrev pub FindsNoneFor : List (List ℕ) → Cause → Type 0
+  FindsNoneFor directories cause = FindsNone directories cause ⊎ (cause ≡ Memory)

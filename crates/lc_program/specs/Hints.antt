@@ -1,7 +1,7 @@
 -- The hint that rules above a counted directory were not read.
 use Rattle.std.specs.Prelude.{◌≡◌, ◌⊎◌, ◌&&◌, ℕ, Bool, true, false, cond, List, [], ◌∷◌, ◌++◌, Option, Some, None, Result, bytes_eq}
 use Rattle.std.specs.{Prelude.{codes, string_bytes}, List.{AllZip, list_all}}
-use Rattle.lc_arguments.specs.declared.request.Request.{Request, TheVariants.{CheckJoined, Check, Count, Diff, Explain, Sum}}
+use Rattle.lc_arguments.specs.declared.request.Request.{Request, TheVariants.{CheckJoined, Check, Count, Diff, Explain, Languages, Sum}}
 use Rattle.lc_io.specs.declared.source.Failed.{Failed}
 use Rattle.lc_text.specs.Visible.{visible_bytes}
 use Rattle.lc_program.specs.{Commands.{count_of, is_typed}, Counts.names_of, Tellings.Tells, declared.repository.Repository.Repository}
@@ -69,4 +69,5 @@ module _ {E : Type 0} (may_take : E → List ℕ → Result ℕ Failed → E →
   Hints may_lie stderr_is_terminal (Check c) err told = told ≡ err
   Hints may_lie stderr_is_terminal (Explain c) err told = told ≡ err
   Hints may_lie stderr_is_terminal (Sum c) err told = told ≡ err
+  Hints may_lie stderr_is_terminal Languages err told = told ≡ err
   Hints may_lie stderr_is_terminal (Diff d) err told = told ≡ err

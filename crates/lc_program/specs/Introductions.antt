@@ -2,7 +2,7 @@
 use Rattle.std.specs.{Prelude.{◌≡◌, ◌||◌, ℕ, Bool, true, false, List, Result, Option, Some, None, bytes_eq, codes}, Bool.MatchBool}
 use Rattle.std.specs.{Borrow.Bor, List.list_any}
 use Rattle.lc_arguments.specs.declared.reports.NamedReport.{NamedReport}
-use Rattle.lc_arguments.specs.declared.request.Request.{Request, TheVariants.{CheckJoined, Check, Count, Diff, Explain, Sum}}
+use Rattle.lc_arguments.specs.declared.request.Request.{Request, TheVariants.{CheckJoined, Check, Count, Diff, Explain, Languages, Sum}}
 use Rattle.lc_io.specs.declared.source.Failed.{Failed}
 use Rattle.lc_glob.specs.Lists.{is_empty}
 use Rattle.lc_program.specs.Tellings.{Tells, TellsIf}
@@ -31,6 +31,7 @@ reads_paths (Check c) = true
 reads_paths (Count c) = is_input c.walk.only_from
 reads_paths (Explain c) = is_empty c.paths.items
 reads_paths (Sum c) = false
+reads_paths Languages = false
 reads_paths (Diff d) = is_input d.walk.only_from
 
 -- whether one of these reports is read from the input
@@ -50,6 +51,7 @@ module _ {E : Type 0} (may_take : E → List ℕ → Result ℕ Failed → E →
   IntroducesTyped (Check c) err told = TellsIf may_take (reads_paths (Check c)) path_introduction err told
   IntroducesTyped (Count c) err told = TellsIf may_take (reads_paths (Count c)) path_introduction err told
   IntroducesTyped (Explain c) err told = TellsIf may_take (reads_paths (Explain c)) path_introduction err told
+  IntroducesTyped Languages err told = told ≡ err
   IntroducesTyped (Sum c) err told = TellsIf may_take (reads_reports (Sum c)) report_introduction err told
   IntroducesTyped (Diff d) err told =
       MatchBool (reads_paths (Diff d)) (Tells may_take err path_introduction told)

@@ -5,6 +5,7 @@ pub mod Faults
 pub mod Finds
 pub mod Hints
 pub mod Introductions
+pub mod LanguageColumns
 pub mod NamedTexts
 pub mod Nested
 pub mod PathLists

@@ -6,7 +6,7 @@ use Rattle.lc_arguments.specs.declared.request.Request.{Request, TheVariants.{Co
 use Rattle.lc_paths.specs.declared.{check_fault.CheckFault.CheckFault, outcome.Outcome.Outcome}
 use Rattle.lc_io.specs.declared.printing.PrintFault.{PrintFault}
 use Rattle.lc_program.specs.{Causes.{check_cause, print_cause}, Unnamed.AreUnnamedLines}
-use Rattle.lc_program.specs.declared.answered.Answered.{Answered, TheVariants.{Checked, Compared, Counted, Explained, Summed}}
+use Rattle.lc_program.specs.declared.answered.Answered.{Answered, TheVariants.{Checked, Compared, Counted, Explained, Listed, Summed}}
 use Rattle.lc_program.specs.declared.{cause.Cause.Cause, ending.Ending.{Ending, TheVariants.{AnyFile, Done, SomeFaults}}}
 use Rattle.lc_paths.specs.declared.outcome.Outcome.TheVariants as outcome
 
@@ -26,6 +26,7 @@ outcome_of_both outcome.SomeFaults other = outcome.SomeFaults
 -- whether an answer has errors
 abbrev pub outcome_of : Answered → Outcome
 outcome_of Checked = outcome.Clean
+outcome_of Listed = outcome.Clean
 outcome_of (Explained outcome) = outcome
 outcome_of (Counted left unnamed) = outcome_by left.faults.items
 outcome_of (Summed left) = outcome_by left.faults.items
@@ -65,3 +66,8 @@ explained (Err fault) = Err (check_cause fault)
 abbrev pub told : Result Outcome PrintFault → Reply
 told (Ok outcome) = Ok (Explained outcome)
 told (Err fault) = Err (print_cause fault)
+
+-- the reply to a request for the list of languages
+abbrev pub listed : Result (Unit {0}) PrintFault → Reply
+listed (Ok _) = Ok Listed
+listed (Err fault) = Err (print_cause fault)

@@ -34,12 +34,12 @@ pub record IsPartOf (typed : Typed) (given : Report) (part : Part) : Type 0 wher
 abbrev pub MayRefuse : List ℕ → ReadFault → Type 0
 MayRefuse text refusal = list_all is_space text ≡ true → refusal ≡ fault.NoReport why.Empty
 
-module _ {I : Type 0} (may_give : I → ℕ → Answer → I → Type 0) (holds : List ℕ → Contents) where
-  -- the text of a REPORT was read, and these parts were made from the reports in it
+module _ {I : Type 0} (may_give : I → ℕ → Answer → I → Type 0) (holds : List ℕ → Contents) (attributes : List (List ℕ)) where
+  -- the text of a REPORT was read, and these parts were made from the reports in it, whose files have the states of these attributes
   abbrev pub ReadsParts : Typed → I → List Part → I → Type 0
   ReadsParts typed input parts read =
       (text : Vec ℕ Global) × ReadsNamed max_report may_give holds typed.1 input (Ok text) read
-      × ((given : List Report) × AreReportsOf text.items given × AllZip (IsPartOf typed) given parts)
+      × ((given : List Report) × AreReportsOf attributes text.items given × AllZip (IsPartOf typed) given parts)
 
   -- all REPORTs were read in their order, and these are their parts, one after another
   abbrev pub ReadsAll : List Typed → I → List Part → I → Type 0
@@ -49,24 +49,24 @@ module _ {I : Type 0} (may_give : I → ℕ → Answer → I → Type 0) (holds 
       × (parts ≡ first ++ more)
 
 module _ {I : Type 0} (may_give : I → ℕ → Answer → I → Type 0) (holds : List ℕ → Contents)
-    (may_unread : List ℕ → Option UnreadReason → Type 0) where
+    (may_unread : List ℕ → Option UnreadReason → Type 0) (attributes : List (List ℕ)) where
   -- a REPORT could not be read, or its text is refused, for this cause
   abbrev pub Refuses : Typed → I → Cause → I → Type 0
   Refuses typed input cause read =
       ((whole : WholeFault) × ReadsNamed max_report may_give holds typed.1 input (Err whole) read
       × IsUnreadFor may_unread typed.1 whole cause)
       ⊎ ((text : Vec ℕ Global) × ReadsNamed max_report may_give holds typed.1 input (Ok text) read
-      × ((refusal : ReadFault) × MayRefuse text.items refusal × IsRefusedFor (origin_of typed.1) refusal cause))
+      × ((refusal : ReadFault) × MayRefuse text.items refusal × IsRefusedFor attributes (origin_of typed.1) refusal cause))
 
   -- one of these REPORTs is the first that could not be read or is refused. Those before it were read, and those after it were not
   abbrev pub RefusesFirst : List Typed → I → Cause → I → Type 0
   RefusesFirst [] input cause read = ⊥
   RefusesFirst (typed ∷ others) input cause read =
       Refuses typed input cause read
-      ⊎ ((first : List Part) × (between : I) × ReadsParts may_give holds typed input first between
+      ⊎ ((first : List Part) × (between : I) × ReadsParts may_give holds attributes typed input first between
       × RefusesFirst others between cause read)
 
   -- the parts of all REPORTs; or why there are none, which may also be that an allocation failed
   abbrev pub AnswersParts : List Typed → I → Result (Vec Part Global) Cause → I → Type 0
-  AnswersParts all input (Ok parts) read = ReadsAll may_give holds all input parts.items read
+  AnswersParts all input (Ok parts) read = ReadsAll may_give holds attributes all input parts.items read
   AnswersParts all input (Err cause) read = RefusesFirst all input cause read ⊎ (cause ≡ Memory)

@@ -1,12 +1,12 @@
 -- The lines about reports that can't be read or added up, with which the program stops.
-use Rattle.std.specs.Prelude.{◌≡◌, ◌≢◌, ◌⊎◌, ℕ, cond, bytes_eq, List, ◌++◌, codes, decimal, Option, None, String, string_bytes}
+use Rattle.std.specs.Prelude.{◌≡◌, ◌≢◌, ◌⊎◌, ℕ, cond, bytes_eq, List, [], ◌++◌, codes, decimal, Option, None, String, string_bytes}
 use Rattle.std.specs.Global.{Global}
 use Rattle.lc_io.specs.declared.whole.WholeFault.{WholeFault}
 use Rattle.lc_program.specs.Reasons.{unexplained_line}
 use Rattle.lc_program.specs.declared.cause.Cause.{Cause, TheVariants.{InReport, Memory, NoSharedColumn, SumsTooLarge}}
 use Rattle.lc_program.specs.declared.unread_reason.UnreadReason.{UnreadReason}
 use Rattle.lc_reading.specs.{MemberNames.member_name, declared.read_fault.{NoReport.NoReport, Part.Part, ReadFault.ReadFault}}
-use Rattle.lc_sheet.specs.Keys.{key_name}
+use Rattle.lc_sheet.specs.{Keys.key_name, declared.key.Key.TheVariants.Attribute}
 use Rattle.lc_reports.specs.declared.sum_fault.SumFault.{SumFault}
 use Rattle.lc_text.specs.Visible.{visible_bytes}
 use Rattle.lc_io.specs.declared.whole.WholeFault.TheVariants as whole
@@ -42,31 +42,44 @@ IsUnreadFor may_unread report whole.Memory cause = cause ≡ Memory
 
 -- ---- a text that is refused
 
-abbrev pub no_report_text : NoReport → List ℕ
-no_report_text why.Empty = codes "it is empty"
-no_report_text (why.NoObject at) = codes "no JSON object at byte " ++ decimal at
-no_report_text (why.Missing name) = codes "no member " ++ member_name name
-no_report_text (why.Twice name) = member_name name ++ codes " twice"
-no_report_text (why.Bad name) = codes "bad " ++ member_name name
+-- the text about a member that has the state of one of these attributes
+abbrev pub attribute_text : List (List ℕ) → ℕ → List ℕ
+attribute_text attributes place = key_name attributes (Attribute place)
+
+abbrev pub no_report_text : List (List ℕ) → NoReport → List ℕ
+no_report_text attributes why.Empty = codes "it is empty"
+no_report_text attributes (why.NoObject at) = codes "no JSON object at byte " ++ decimal at
+no_report_text attributes (why.Missing name) = codes "no member " ++ member_name name
+no_report_text attributes (why.Twice name) = member_name name ++ codes " twice"
+no_report_text attributes (why.Bad name) = codes "bad " ++ member_name name
+no_report_text attributes (why.AttributeTwice place) = attribute_text attributes place ++ codes " twice"
+no_report_text attributes (why.BadAttribute place) = codes "bad " ++ attribute_text attributes place
 
 abbrev pub sums_text : Part → List ℕ
 sums_text part.Rows = codes "is no report: its rows do not add up to its total"
 sums_text part.Files = codes "is no report: its files do not add up to its total"
 sums_text part.TextAndBinary = codes "is no report: its text and binary do not add up to its total"
 
+-- the text that a REPORT has no state of an attribute
+abbrev pub no_attribute_text : List ℕ → List ℕ
+no_attribute_text name = codes "has no column " ++ name ++ codes ": count with --files --by " ++ name
+
 -- the text of the REPORT that errors call by this name is refused, for this cause
-abbrev pub IsRefusedFor : List ℕ → ReadFault → Cause → Type 0
-IsRefusedFor name fault.Memory cause = cause ≡ Memory
-IsRefusedFor name (fault.NoReport why) cause = IsTold (report_line name (codes "is no report: " ++ no_report_text why)) cause
-IsRefusedFor name fault.CutByTop cause = IsTold (report_line name (codes "was cut by --top")) cause
-IsRefusedFor name (fault.DoNotAddUp part) cause = IsTold (report_line name (sums_text part)) cause
+abbrev pub IsRefusedFor : List (List ℕ) → List ℕ → ReadFault → Cause → Type 0
+IsRefusedFor attributes name fault.Memory cause = cause ≡ Memory
+IsRefusedFor attributes name (fault.NoReport why) cause =
+    IsTold (report_line name (codes "is no report: " ++ no_report_text attributes why)) cause
+IsRefusedFor attributes name fault.CutByTop cause = IsTold (report_line name (codes "was cut by --top")) cause
+IsRefusedFor attributes name (fault.DoNotAddUp part) cause = IsTold (report_line name (sums_text part)) cause
+IsRefusedFor attributes name (fault.NoAttribute place) cause =
+    IsTold (report_line name (no_attribute_text (attribute_text attributes place))) cause
 
 -- ---- reports that have no sum
 
 abbrev pub IsUnsummedFor : SumFault → Cause → Type 0
 IsUnsummedFor sum.Memory cause = cause ≡ Memory
 IsUnsummedFor (sum.NoColumn origin key) cause =
-    IsTold (report_line origin.now (codes "has no column " ++ key_name key ++ codes ": count with --files")) cause
+    IsTold (report_line origin.now (codes "has no column " ++ key_name [] key ++ codes ": count with --files")) cause
 IsUnsummedFor sum.NoSharedColumn cause = cause ≡ NoSharedColumn
 IsUnsummedFor (sum.NoFiles origin) cause = IsTold (report_line origin.now (codes "has no files: count with --files")) cause
 IsUnsummedFor (sum.NoSkipped origin) cause =

@@ -1,6 +1,7 @@
 -- How a request is answered, by what was read and written.
 use Rattle.std.specs.{Prelude.{◌≡◌, ◌⊎◌, ℕ, Bool, true, false, List, [], ◌∷◌, map, IfSome, Option, Some, Result, Ok, Err}, Borrow.Bor}
-use Rattle.lc_io.specs.{declared.{source.Failed.Failed, printing.PrintFault.PrintFault}, Reads.Answer}
+use Rattle.lc_io.specs.{declared.{source.Failed.Failed, printing.PrintFault.PrintFault}, Reads.Answer, Writes.AnswersPrint}
+use Rattle.lc_languages.specs.declared.list.TheConstants.{LANGUAGES}
 use Rattle.lc_level.specs.Filters.{FiltersModel}
 use Rattle.lc_rules.specs.IgnoreRules.{rules_of}
 use Rattle.lc_tree.specs.{Trees.{Listings, Contents}, declared.file_systems.FileSystems.TheVariants.All}
@@ -9,9 +10,9 @@ use Rattle.lc_paths.specs.declared.{explaining.explain_options.ExplainOptions.Ex
 use Rattle.lc_paths.specs.declared.{outcome.Outcome.Outcome, style.{PathFormat.PathFormat, PathStyle.PathStyle}}
 use Rattle.lc_paths.specs.Checks.{Answers.{AnswersCheck, AnswersExplainedCheck, no_rules}, CheckText.text_by}
 use Rattle.lc_paths.specs.{Checks.{Joined.{rules_part, joined_text}, ExplainedText.explained_text_of}, Styles.styled}
-use Rattle.lc_arguments.specs.declared.request.Request.{Request, TheVariants.{CheckJoined, Check, Count, Diff, Explain, Sum}}
+use Rattle.lc_arguments.specs.declared.request.Request.{Request, TheVariants.{CheckJoined, Check, Count, Diff, Explain, Languages, Sum}}
 use Rattle.lc_arguments.specs.declared.explain.ExplainRequest.{ExplainRequest}
-use Rattle.lc_program.specs.{Counts.AnswersCount, Differences.AnswersDiff, Replies.{Reply, checked, explained, told}}
+use Rattle.lc_program.specs.{Counts.AnswersCount, Differences.AnswersDiff, Replies.{Reply, checked, explained, listed, told}}
 use Rattle.lc_program.specs.{Filters.{AnswersFilters, GaveNoRules, LacksRules, LoadsFile}, Styles.{end_for, format_for, format_with}}
 use Rattle.lc_program.specs.{Finds.HasLine, Reasons.{is_no_directory, unexplained_line}, Styles.style_for, Sums.AnswersSum}
 use Rattle.lc_program.specs.{Systems.SystemMay, declared.cause.Cause.{Cause, TheVariants.Memory}}
@@ -52,6 +53,11 @@ module _ {I O : Type 0} (may_give : I → ℕ → Answer → I → Type 0) (may_
       × AnswersPathCheck format name is_explained bytes input out answer read wrote)
       ⊎ ((cause : Cause) × GaveNoRules (holds name) cause × (reply ≡ Err cause) × (read ≡ input) × (wrote ≡ out))
 
+-- how a request for the list of languages is answered: it was written, or not, or not whole
+abbrev pub AnswersLanguages : {O : Type 0} → (O → List ℕ → Result ℕ Failed → O → Type 0) → O → Reply → O → Type 0
+AnswersLanguages may_take out reply wrote =
+    (answer : Result (Unit {0}) PrintFault) × (reply ≡ listed answer) × AnswersPrint may_take out LANGUAGES.now answer wrote
+
 module _ (may_unlist : List ℕ → Option UnreadReason → Type 0) where
   -- the directory of an explanation is refused for this cause: it is none by the system's answer, or an allocation failed
   abbrev pub RefusesDirectory : List ℕ → Cause → Type 0
@@ -68,14 +74,16 @@ module _ (may_unlist : List ℕ → Option UnreadReason → Type 0) where
 
 module _ (may : SystemMay) {I O : Type 0} (may_give : I → ℕ → Answer → I → Type 0)
     (may_take : O → List ℕ → Result ℕ Failed → O → Type 0) where
-  -- how an explanation of the paths in a directory is answered: by the system's answer the directory may be one, and the paths are explained
+  -- how an explanation of the paths in a directory is answered: by the system's answer the directory may be one, and the paths are
+  -- explained
   -- by what the command line requests; or the directory was refused, or there were no rules, and nothing was read or written
   abbrev pub AnswersExplanation : PathStyle → ExplainRequest → I → O → Reply → I → O → Type 0
   AnswersExplanation style c input out reply read wrote =
-      (AnswersDirectory may.unlist c.directory.now (Ok tt) × ((f : FiltersModel) × AnswersFilters may.hold may.unread c.filters (Ok f)
+      (AnswersDirectory may.unlist c.directory.now (Ok tt)
+      × ((f : FiltersModel) × AnswersFilters may.hold may.unread c.filters [] (Ok f)
       × ((q : ExplainOptions) × (q.filters.now ≡ f) × (q.style ≡ style)
-      × AnswersPaths (may.list c.directory.now All) (may.give c.directory.now All) may_give may_take q c.null c.paths.items input out reply
-      read wrote)))
+      × AnswersPaths (may.list c.directory.now All) (may.give c.directory.now All) may_give may_take q c.null c.paths.items input
+      out reply read wrote)))
       ⊎ ((cause : Cause) × (RefusesDirectory may.unlist c.directory.now cause ⊎ LacksRules may.hold may.unread c.filters cause)
       × (reply ≡ Err cause) × (read ≡ input) × (wrote ≡ out))
 
@@ -90,6 +98,8 @@ module _ (may : SystemMay) {I O : Type 0} (may_give : I → ℕ → Answer → I
       AnswersCount may may_give may_take (format_for is_terminal) c input out reply read wrote
   AnswersRequest is_terminal (Explain c) input out reply read wrote =
       AnswersExplanation (style_for is_terminal) c input out reply read wrote
+  AnswersRequest is_terminal Languages input out reply read wrote =
+      AnswersLanguages may_take out reply wrote × (read ≡ input)
   AnswersRequest is_terminal (Sum c) input out reply read wrote =
       AnswersSum may may_give may_take (format_for is_terminal) c input out reply read wrote
   AnswersRequest is_terminal (Diff d) input out reply read wrote =

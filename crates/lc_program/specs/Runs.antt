@@ -18,20 +18,23 @@ AnswersText may_take Is out (Ok _) wrote = (text : List ℕ) × Is text × Write
 AnswersText may_take Is out (Err print.Write) wrote = (text : List ℕ) × Is text × StopsWriting may_take out text wrote
 AnswersText may_take Is out (Err print.Memory) wrote = wrote ≡ out
 
--- what a call answers that writes the table of the part of a report that meets some conditions, with these options; `left` is this part
-abbrev pub AnswersTable : {O : Type 0} → (O → List ℕ → Result ℕ Failed → O → Type 0) → List ℕ → List ConditionModel → TableOptions → Report
-    → Report → O → Result (Unit {0}) PrintFault → O → Type 0
-AnswersTable may_take counted conditions options r left out answer wrote =
-    AnswersText may_take (λ text. IsPrinted counted conditions options r text left) out answer wrote
+-- what a call answers that writes the table of the part of a report that meets some conditions, with these options and these columns of
+-- attributes; `left` is this part
+abbrev pub AnswersTable : {O : Type 0} → (O → List ℕ → Result ℕ Failed → O → Type 0) → List ℕ → List ConditionModel → TableOptions
+    → List (List ℕ) → Report → Report → O → Result (Unit {0}) PrintFault → O → Type 0
+AnswersTable may_take counted conditions options attributes r left out answer wrote =
+    AnswersText may_take (λ text. IsPrinted counted conditions options attributes r text left) out answer wrote
 
 module _ {O : Type 0} (may_take : O → List ℕ → Result ℕ Failed → O → Type 0) (walks : Result Report WalkFault → Type 0)
-    (counted : List ℕ) (conditions : List ConditionModel) (options : TableOptions) where
+    (counted : List ℕ) (conditions : List ConditionModel) (options : TableOptions) (attributes : List (List ℕ)) where
   abbrev pub AnswersRun : O → Result Report RunFault → O → Type 0
   -- the table of the report was written whole, and this is left of it
-  AnswersRun out (Ok left) wrote = (r : Report) × walks (Ok r) × AnswersTable may_take counted conditions options r left out (Ok tt) wrote
+  AnswersRun out (Ok left) wrote = (r : Report) × walks (Ok r)
+      × AnswersTable may_take counted conditions options attributes r left out (Ok tt) wrote
   -- the walk gave no report, and nothing was written
   AnswersRun out (Err (Walk f)) wrote = walks (Err f) × (wrote ≡ out)
   AnswersRun out (Err Memory) wrote = wrote ≡ out
   -- a prefix of the table was written
   AnswersRun out (Err Write) wrote =
-      (r : Report) × walks (Ok r) × ((left : Report) × AnswersTable may_take counted conditions options r left out (Err print.Write) wrote)
+      (r : Report) × walks (Ok r) × ((left : Report)
+      × AnswersTable may_take counted conditions options attributes r left out (Err print.Write) wrote)

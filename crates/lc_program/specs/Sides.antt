@@ -3,7 +3,8 @@ use Rattle.std.specs.Prelude.{◌≡◌, ◌≢◌, ◌⊎◌, ℕ, Bool, true, 
 use Rattle.std.specs.Global.{Global}
 use Rattle.lc_arguments.specs.declared.walk_request.WalkRequest.{WalkRequest}
 use Rattle.lc_io.specs.Reads.{Answer}
-use Rattle.lc_program.specs.{Faults.has_path, Finds.IsCauseIn, Reasons.unexplained_line, ReportFiles.{ReadsParts, Refuses}}
+use Rattle.lc_program.specs.{Faults.has_path, Finds.IsCauseIn, LanguageColumns.HasLanguages, Reasons.unexplained_line}
+use Rattle.lc_program.specs.ReportFiles.{ReadsParts, Refuses}
 use Rattle.lc_program.specs.{ReportLines.{IsTold, IsUnsummedFor}, Systems.SystemMay, WalkRequests.entered_by}
 use Rattle.lc_program.specs.declared.cause.Cause.{Cause, TheVariants.Memory}
 use Rattle.lc_program.specs.declared.unread_reason.UnreadReason.{UnreadReason}
@@ -43,29 +44,31 @@ module _ (may : SystemMay) (w : WalkRequest) (o : Options) where
       (r : Report) × MayWalkSide name (Ok r) × (has_path [] r.faults.items ≡ true)
       × (((why : Option UnreadReason) × may.unlist name why × IsTold (unexplained_line name why) cause) ⊎ (cause ≡ Memory))
 
-  -- the report of a side that is a directory and was listed, or why there is none
-  abbrev pub CountsSide : List ℕ → Result Report Cause → Type 0
-  CountsSide name (Ok r) = MayWalkSide name (Ok r) × (has_path [] r.faults.items ≡ false)
-  CountsSide name (Err cause) =
-      ((fault : WalkFault) × MayWalkSide name (Err fault) × IsCauseIn name fault cause) ⊎ IsUnlisted name cause
+  -- the report of a side that is a directory and was listed, with languages where one of these columns shows them, or why there is none
+  abbrev pub CountsSide : List (List ℕ) → List ℕ → Result Report Cause → Type 0
+  CountsSide columns name (Ok s) =
+      (r : Report) × MayWalkSide name (Ok r) × (has_path [] r.faults.items ≡ false) × HasLanguages columns r s
+  CountsSide columns name (Err cause) =
+      ((fault : WalkFault) × MayWalkSide name (Err fault) × IsCauseIn name fault cause) ⊎ IsUnlisted name cause ⊎ (cause ≡ Memory)
 
-module _ (may : SystemMay) {I : Type 0} (may_give : I → ℕ → Answer → I → Type 0) (needs : Needs) where
-  -- the sum of the reports in the REPORT with this name, or why there is none
+module _ (may : SystemMay) {I : Type 0} (may_give : I → ℕ → Answer → I → Type 0) (attributes : List (List ℕ)) (needs : Needs) where
+  -- the sum of the reports in the REPORT with this name, whose files have the states of these attributes, or why there is none
   abbrev pub ReadsSide : List ℕ → I → Result Report Cause → I → Type 0
   ReadsSide name input (Ok r) read =
-      (parts : Vec Part Global) × ReadsParts may_give may.hold (None, name) input parts.items read
+      (parts : Vec Part Global) × ReadsParts may_give may.hold attributes (None, name) input parts.items read
       × IsSummed needs parts.items (Ok r)
   ReadsSide name input (Err cause) read =
-      (Refuses may_give may.hold may.unread (None, name) input cause read ⊎ (cause ≡ Memory))
-      ⊎ ((parts : Vec Part Global) × ReadsParts may_give may.hold (None, name) input parts.items read
+      (Refuses may_give may.hold may.unread attributes (None, name) input cause read ⊎ (cause ≡ Memory))
+      ⊎ ((parts : Vec Part Global) × ReadsParts may_give may.hold attributes (None, name) input parts.items read
       × ((fault : SumFault) × IsSummed needs parts.items (Err fault) × IsUnsummedFor fault cause))
 
-module _ (may : SystemMay) {I : Type 0} (may_give : I → ℕ → Answer → I → Type 0) (w : WalkRequest) (o : Options) (needs : Needs) where
+module _ (may : SystemMay) {I : Type 0} (may_give : I → ℕ → Answer → I → Type 0) (w : WalkRequest) (o : Options)
+    (attributes : List (List ℕ)) (needs : Needs) where
   -- the report of a side, or why there is none. Memory may be refused before it is known what the side is
   abbrev pub GivesSide : List ℕ → I → Result Report Cause → I → Type 0
   GivesSide name input answer read =
-      (IsSide may.unlist name true × CountsSide may w o name answer × (read ≡ input))
-      ⊎ (IsSide may.unlist name false × ReadsSide may may_give needs name input answer read)
+      (IsSide may.unlist name true × CountsSide may w o attributes name answer × (read ≡ input))
+      ⊎ (IsSide may.unlist name false × ReadsSide may may_give attributes needs name input answer read)
       ⊎ ((answer ≡ Err Memory) × (read ≡ input))
 
   -- the reports of both sides, the old side first, or why there is none

@@ -4,7 +4,7 @@ use Rattle.lc_arguments.specs.{Combinations.is_picture, Reports.report_model, Ta
 use Rattle.lc_io.specs.{Reads.Answer, declared.{printing.PrintFault.PrintFault, source.Failed.Failed}}
 use Rattle.lc_program.specs.{Causes.print_cause, Counts.one_text, Replies.Reply, ReportFiles.{AnswersParts, Typed}}
 use Rattle.lc_program.specs.{ReportLines.IsUnsummedFor, Runs.AnswersTable, Systems.SystemMay, declared.answered.Answered.TheVariants.Summed}
-use Rattle.lc_program.specs.declared.cause.Cause.{Cause}
+use Rattle.lc_program.specs.{WalkRequests.columns_of, declared.cause.Cause.Cause}
 use Rattle.lc_sheet.specs.declared.table_options.Format.{Format}
 use Rattle.lc_reports.specs.{Needs.needs_of, Sums.IsSummed, declared.{needs.Needs.Needs, part.Part.Part, sum_fault.SumFault.SumFault}}
 use Rattle.lc_walk.specs.declared.report.Report.{Report}
@@ -31,7 +31,8 @@ module _ {O : Type 0} (may_take : O → List ℕ → Result ℕ Failed → O →
   -- and the columns are those that each report has if it names no columns
   abbrev pub AnswersTableOf : Report → Report → O → Result (Unit {0}) PrintFault → O → Type 0
   AnswersTableOf s left out answer wrote =
-      AnswersTable may_take (summed_in c) c.conditions.items (options_in other s.columns c.table) s left out answer wrote
+      AnswersTable may_take (summed_in c) c.conditions.items (options_in other s.columns c.table) (columns_of c.attributes.items) s left
+      out answer wrote
 
   -- the table of a sum was written whole, and `left` is the part of the sum that meets the conditions; or it was not written, or not whole
   abbrev pub PrintsSum : Report → O → Result Report Cause → O → Type 0
@@ -56,7 +57,9 @@ module _ (may : SystemMay) {I O : Type 0} (may_give : I → ℕ → Answer → I
   -- how a sum is answered: the reports were read, and their sum was printed; or a report could not be read, and nothing was written
   abbrev pub AnswersSum : I → O → Reply → I → O → Type 0
   AnswersSum input out reply read wrote =
-      ((parts : Vec Part Global) × AnswersParts may_give may.hold may.unread (reports_of c) input (Ok parts) read
+      ((parts : Vec Part Global) × AnswersParts may_give may.hold may.unread (columns_of c.attributes.items) (reports_of c) input
+      (Ok parts) read
       × ((answer : Result Report Cause) × (reply ≡ sum_reply answer) × PrintsParts may_take other c parts.items out answer wrote))
-      ⊎ ((cause : Cause) × AnswersParts may_give may.hold may.unread (reports_of c) input (Err cause) read × (reply ≡ Err cause)
+      ⊎ ((cause : Cause) × AnswersParts may_give may.hold may.unread (columns_of c.attributes.items) (reports_of c) input (Err cause) read
+      × (reply ≡ Err cause)
       × (wrote ≡ out))

@@ -1,7 +1,7 @@
 -- The lines about patterns that can match nothing.
 use Rattle.std.specs.{Prelude.{ℕ, cond, List, [], ◌++◌, codes, flat_map}, Borrow.Bor}
 use Rattle.lc_arguments.specs.declared.filter_request.FilterRequest.{FilterRequest}
-use Rattle.lc_arguments.specs.declared.request.Request.{Request, TheVariants.{CheckJoined, Check, Count, Diff, Explain, Sum}}
+use Rattle.lc_arguments.specs.declared.request.Request.{Request, TheVariants.{CheckJoined, Check, Count, Diff, Explain, Languages, Sum}}
 use Rattle.lc_rules.specs.CanMatch.{can_match}
 use Rattle.lc_text.specs.Visible.{visible_bytes}
 
@@ -28,4 +28,5 @@ unmatched_in (Check c) = []
 unmatched_in (Count c) = unmatched_of c.walk.filters
 unmatched_in (Explain c) = unmatched_of c.filters
 unmatched_in (Sum c) = []
+unmatched_in Languages = []
 unmatched_in (Diff d) = unmatched_of d.walk.filters

@@ -1,10 +1,12 @@
 -- What the command line requests of walks.
-use Rattle.std.specs.{Prelude.{◌≡◌, ◌⊎◌, ℕ, if◌then◌else◌, List, map, Result, Ok, Err, Vec}, Borrow.Bor, Global.Global}
+use Rattle.std.specs.{Prelude.{◌≡◌, ◌⊎◌, ◌++◌, ℕ, if◌then◌else◌, List, map, Option, Some, None, Result, Ok, Err, Vec}, Borrow.Bor}
+use Rattle.std.specs.{Global.Global, List.filter_map, Str.bytes_eq}
 use Rattle.lc_arguments.specs.declared.walk_request.WalkRequest.{WalkRequest}
 use Rattle.lc_io.specs.Reads.{Answer}
-use Rattle.lc_level.specs.Filters.{FiltersModel, narrowed}
+use Rattle.lc_level.specs.{Filters.{FiltersModel, attribute_of as attribute_in, narrowed}, NamedAttributes.attributes_of}
 use Rattle.lc_program.specs.{Filters.{AnswersFilters, LacksRules}, PathLists.{AnswersWanted, GivesList}, Styles.end_for}
 use Rattle.lc_program.specs.{Systems.SystemMay, declared.cause.Cause.{Cause, TheVariants.Memory}}
+use Rattle.lc_sheet.specs.AttributeColumns.{attribute_of, language_name}
 use Rattle.lc_tree.specs.declared.file_systems.FileSystems.{FileSystems, TheVariants.{All, One}}
 use Rattle.lc_walk.specs.declared.options.{Options.Options, ReportLists.ReportLists}
 
@@ -19,6 +21,18 @@ pub record IsAskedBy (w : WalkRequest) (wanted : ReportLists) (f : FiltersModel)
   pub lists : o.lists ≡ wanted
   pub filters : o.filters.now ≡ f
 
+-- the names of these columns of attributes and of languages
+abbrev pub columns_of : List (Bor (List ℕ)) → List (List ℕ)
+columns_of columns = map (λ (column : Bor (List ℕ)). column.now) columns
+
+-- the attribute that the name of a column names; `lang` names none
+abbrev pub own_attribute : Bor (List ℕ) → Option (List ℕ)
+own_attribute column = if bytes_eq column.now language_name then None else Some (attribute_in (attribute_of column.now))
+
+-- the attributes of `--without`, and those that these columns name
+abbrev pub named_in : WalkRequest → List (Bor (List ℕ)) → List (List ℕ)
+named_in w columns = attributes_of w.filters.without.items ++ filter_map own_attribute columns
+
 module _ (may : SystemMay) {I : Type 0} (may_give : I → ℕ → Answer → I → Type 0) (w : WalkRequest) where
   -- the paths that the command line requests, with those of the list that it names, or why there are none
   abbrev pub AnswersPathsOf : I → Result (Vec (Bor (List ℕ)) Global) Cause → I → Type 0
@@ -27,10 +41,11 @@ module _ (may : SystemMay) {I : Type 0} (may_give : I → ℕ → Answer → I �
       × AnswersWanted (map (λ path. path.now) w.only.items) w.only_from (end_for w.null) list.items answer)
       ⊎ ((cause : Cause) × GivesList may_give may.hold may.unread w.only_from input (Err cause) read × (answer ≡ Err cause))
 
-  -- a walk has these options: those that the command line requests, by the rules and the paths that were read, and with these lists
-  abbrev pub IsPrepared : ReportLists → I → Options → I → Type 0
-  IsPrepared wanted input o read =
-      (f : FiltersModel) × AnswersFilters may.hold may.unread w.filters (Ok f)
+  -- a walk has these options: those that the command line requests, by the rules and the paths that were read, with the
+  -- attributes of these columns for files, and with these lists
+  abbrev pub IsPrepared : List (Bor (List ℕ)) → ReportLists → I → Options → I → Type 0
+  IsPrepared columns wanted input o read =
+      (f : FiltersModel) × AnswersFilters may.hold may.unread w.filters (map (λ column. attribute_of column.now) columns) (Ok f)
       × ((paths : Vec (Bor (List ℕ)) Global) × AnswersPathsOf input (Ok paths) read
       × IsAskedBy w wanted (narrowed f (map (λ path. path.now) paths.items)) o)
 

@@ -12,6 +12,8 @@ use lc_walk::{FaultLine, Report};
 pub(crate) enum Answered {
     /// A check of paths. Its answer never has errors.
     Checked,
+    /// The list of languages.
+    Listed,
     /// An explanation of paths. The outcome says whether the explanation has errors.
     Explained(Outcome),
     /// A count: the printed report, and the lines for standard error about attributes of `--without` that no attribute file names.
@@ -49,7 +51,7 @@ impl Answered {
         ensures { result ≡ outcome_of self.now }
     {
         match self {
-            Answered::Checked => Outcome::Clean,
+            Answered::Checked | Answered::Listed => Outcome::Clean,
             Answered::Explained(outcome) => *outcome,
             Answered::Counted(report, _) | Answered::Summed(report) => outcome_by(&report.faults),
             Answered::Compared(compared, _) => outcome_of_both(

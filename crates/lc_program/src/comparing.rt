@@ -12,6 +12,7 @@ ghost use Rattle.lc_program.specs.declared.answered.Answered.TheVariants.{Compar
 ghost use Rattle.lc_level.specs.NamedAttributes.{noted};
 
 use crate::answered::Answered;
+use crate::attributes::{columns_of, named_attributes};
 use crate::cause::Cause;
 use crate::checking::path_end;
 use crate::choices::refuse_choices;
@@ -29,7 +30,7 @@ use lc_io::{PrintFault, Sink, Source, print};
 use lc_level::NamedAttributes;
 use lc_reports::Needs;
 use lc_rows::keep;
-use lc_sheet::{Columns, Format, Number, Order, Output};
+use lc_sheet::{AttributeColumn, Columns, Format, Number, Order, Output};
 use lc_walk::{Report, ReportLists};
 use std::alloc::{AllocError, Global};
 use std::sync::Wait;
@@ -97,14 +98,15 @@ fn compared_lists(asked: &DiffRequest<'_>) -> ReportLists
 fn changes_text(
     alloc: Global,
     options: &ChangeOptions,
+    columns: &[AttributeColumn],
     old: &Report,
     new: &Report,
 ) -> Result<(Vec<u8>, bool), AllocError>
     requires old_files { HasFilesFor options.now old.now.lists }
     requires new_files { HasFilesFor options.now new.now.lists }
-    ensures { IfOk result (λ made. IsChangesText options.now old.now new.now made.0.items made.1) }
+    ensures { IfOk result (λ made. IsChangesText options.now columns.now old.now new.now made.0.items made.1) }
 {
-    let shown = ShownChanges::of(alloc, old, new, options)?;
+    let shown = ShownChanges::of(alloc, old, new, options, columns)?;
     let sheet = shown.comparison();
     let text = text(alloc, options.format, &sheet)?;
     Ok((text, shown.some_differ()))
@@ -114,15 +116,16 @@ fn changes_text(
 fn print_changes<O: Sink>(
     alloc: Global,
     options: &ChangeOptions,
+    columns: &[AttributeColumn],
     old: &Report,
     new: &Report,
     out: &mut O,
 ) -> Result<bool, PrintFault>
     requires old_files { HasFilesFor options.now old.now.lists }
     requires new_files { HasFilesFor options.now new.now.lists }
-    ensures { AnswersChanges O.may_take options.now old.now new.now out.old result out.new }
+    ensures { AnswersChanges O.may_take options.now columns.now old.now new.now out.old result out.new }
 {
-    let (text, differ) = changes_text(alloc, options, old, new)?;
+    let (text, differ) = changes_text(alloc, options, columns, old, new)?;
     print(out, &text)?;
     Ok(differ)
 }
@@ -144,8 +147,9 @@ fn print_kept<O: Sink>(
     let mut new = new;
     keep(alloc, &asked.conditions, &mut old)?;
     keep(alloc, &asked.conditions, &mut new)?;
+    let columns = columns_of(alloc, &asked.attributes)?;
     let options = change_options(asked, format);
-    let differ = print_changes(alloc, &options, &old, &new, out)?;
+    let differ = print_changes(alloc, &options, &columns, &old, &new, out)?;
     Ok(Comparison { old, new, differ })
 }
 
@@ -194,10 +198,17 @@ fn compare_sides<R: Threads + Wait + Sync + AllocGlobal, Y: System, S: Source, O
     ensures { AnswersSides (may_of Y.Tree.Tree Y.System system.now)
         S.may_give O.may_take format asked.now input.old out.old result input.new out.new }
 {
-    let named = NamedAttributes::new(rt.alloc(), &asked.walk.filters.without)?;
+    let columns = columns_of(rt.alloc(), &asked.attributes)?;
+    let named = named_attributes(rt.alloc(), &asked.walk, &asked.attributes)?;
     // Borrowed before the list is, so that the options' references end together.
     let noted = &named;
-    let filters = read_filters(rt.alloc(), system, &asked.walk.filters, Some(noted))?;
+    let filters = read_filters(
+        rt.alloc(),
+        system,
+        &asked.walk.filters,
+        &asked.attributes,
+        Some(noted),
+    )?;
     let list = list_of(rt.alloc(), system, asked.walk.only_from, input)?;
     let listed = list.as_slice();
     let only = asked.walk.only.as_slice();
@@ -208,6 +219,7 @@ fn compare_sides<R: Threads + Wait + Sync + AllocGlobal, Y: System, S: Source, O
     let how = SideOptions {
         walk: &asked.walk,
         options: &options,
+        attributes: &columns,
         needs: compared_needs(asked),
     };
     let sides = both_sides(rt, system, (asked.old, asked.new), how, input);

@@ -14,6 +14,7 @@ ghost use Rattle.lc_rows.specs.WalkedReports.{ListsFilesFor};
 ghost use Rattle.lc_walk.specs.WalkOptions.{AreWithinLimits};
 
 use crate::answered::Answered;
+use crate::attributes::{columns_of, named_attributes};
 use crate::cause::Cause;
 use crate::checking::path_end;
 use crate::filters::{narrowed, read_filters};
@@ -36,14 +37,14 @@ use std::thread::Threads;
 // The command line allows as many threads and directories as a walk can have.
 const _: () = prove!(MAX_THREADS == MAX_WORKERS && MAX_DIRS == MAX_CAPACITY);
 
-/// Returns which lists the report of a count must have. A table with rows by directory, a picture and a condition on a number need the list
-/// of files.
+/// Returns which lists the report of a count must have. A table with rows by directories or attributes, a picture, and a condition on a
+/// number or an attribute need the list of files.
 fn lists_of(asked: &CountRequest<'_>) -> ReportLists
     ensures { result ≡ lists_of asked.now }
 {
     ReportLists {
         files: asked.table.files
-            || asked.table.by.unwrap_or(Columns::ALL).dir.is_some()
+            || asked.table.by.unwrap_or(Columns::ALL).are_of_files()
             || asked.table.is_picture()
             || needs_files(&asked.conditions),
         left_out: asked.left_out,
@@ -105,11 +106,13 @@ fn print_found<R: Threads + Wait + Sync + AllocGlobal, Y: System, O: Sink>(
     ensures { Prints (may_of Y.Tree.Tree Y.System system.now)
         O.may_take format asked.now options.now out.old result out.new }
 {
-    let mut report = found(rt, system, asked, options)?;
+    let columns = columns_of(rt.alloc(), &asked.attributes)?;
+    let mut report = found(rt, system, asked, &columns, options)?;
     let counted = one_text(rt.alloc(), &asked.directories)?;
     let shown = ReportOptions {
         table: asked.table.options(format, Columns::ALL),
         conditions: &asked.conditions,
+        attributes: &columns,
         counted: &counted,
     };
     table(rt.alloc(), &mut report, shown, out)?;
@@ -143,10 +146,16 @@ fn count_apart<R: Threads + Wait + Sync + AllocGlobal, Y: System, S: Source, O: 
     ensures { AnswersApart (may_of Y.Tree.Tree Y.System system.now)
         S.may_give O.may_take format asked.now input.old out.old result input.new out.new }
 {
-    let named = NamedAttributes::new(rt.alloc(), &asked.walk.filters.without)?;
+    let named = named_attributes(rt.alloc(), &asked.walk, &asked.attributes)?;
     // Borrowed before the list is, so that the options' references end together.
     let noted = &named;
-    let filters = read_filters(rt.alloc(), system, &asked.walk.filters, Some(noted))?;
+    let filters = read_filters(
+        rt.alloc(),
+        system,
+        &asked.walk.filters,
+        &asked.attributes,
+        Some(noted),
+    )?;
     let list = list_of(rt.alloc(), system, asked.walk.only_from, input)?;
     let listed = list.as_slice();
     let only = asked.walk.only.as_slice();

@@ -72,7 +72,7 @@ pub(crate) fn explain_asked<Y: System, S: Source, O: Sink>(
         S.may_give O.may_take style asked.now input.old out.old result input.new out.new }
 {
     refuse_no_directory(alloc, system, asked.directory)?;
-    let filters = read_filters(alloc, system, &asked.filters, None)?;
+    let filters = read_filters(alloc, system, &asked.filters, &[], None)?;
     let tree = system.tree(alloc, asked.directory, FileSystems::All)?;
     let options = options_of(&filters, style);
     explain_paths(alloc, &tree, &options, asked, input, out)

@@ -7,6 +7,7 @@ ghost use Rattle.lc_level.specs.RuleReads.{shared};
 ghost use Rattle.lc_program.specs.Filters.{AnswersExcluded, AnswersFilters, AnswersPatterns, Assigns, IsAttributesCause, LacksAttributes};
 ghost use Rattle.lc_program.specs.Filters.{words_of};
 ghost use Rattle.lc_rules.specs.AttrLines.{attribute_file_of};
+ghost use Rattle.lc_sheet.specs.AttributeColumns.{attribute_of};
 
 use crate::cause::Cause;
 use crate::named_texts::text_in_file;
@@ -16,6 +17,7 @@ use lc_arguments::{FilterRequest, lines_text};
 use lc_io::WholeFault;
 use lc_level::{Filters, NamedAttributes, OnlyPaths, RuleText, RulesFileFault, read_rule_text};
 use lc_rules::{AttrFile, MAX_RULE_BYTES};
+use lc_sheet::attribute_of;
 use std::alloc::{AllocError, Global};
 use std::sync::Arc;
 
@@ -119,6 +121,17 @@ fn words_of(alloc: Global, archive: bool, without: &[&str]) -> Result<Vec<Vec<u8
     Ok(words)
 }
 
+/// Makes the list of the attributes whose states are in these columns.
+fn asked_by(alloc: Global, columns: &[&str]) -> Result<Vec<Vec<u8>>, AllocError>
+    ensures { IfOk result (λ asked. map (λ word. word.items) asked.items ≡ map (λ column. attribute_of column.now) columns.now) }
+{
+    let mut asked = Vec::with_capacity(alloc, columns.len())?;
+    for column in columns {
+        asked.push(attribute_of(column).as_bytes().to_vec(alloc)?)?;
+    }
+    Ok(asked)
+}
+
 /// Returns the filters with these paths, sorted, as the paths to count. If there are no paths, the whole tree is counted.
 pub(crate) fn narrowed<'p>(
     alloc: Global,
@@ -141,20 +154,23 @@ pub(crate) fn narrowed<'p>(
 }
 
 /// Reads the filters of a command line, except the paths of `--only` and `--only-from`, and notes which attributes the file of
-/// `--attributes-from` names.
+/// `--attributes-from` names. Files are to have the states that are in `columns`.
 pub(crate) fn read_filters<'p, Y: System>(
     alloc: Global,
     system: &Y,
     asked: &FilterRequest<'_>,
+    columns: &[&str],
     named: Option<&NamedAttributes>,
 ) -> Result<Filters<'p>, Cause>
-    ensures { AnswersFilters (Y.holds system.now) (Y.unreads system.now) asked.now result }
+    ensures { AnswersFilters (Y.holds system.now) (Y.unreads system.now) asked.now
+        (map (λ column. attribute_of column.now) columns.now) result }
 {
     let exclude_from = excluded(alloc, system, asked.exclude_from)?;
     let attributes_from = attributes_from(alloc, system, asked.attributes_from, named)?;
     let exclude = rules_of_patterns(alloc, &asked.exclude)?;
     let include = rules_of_patterns(alloc, &asked.include)?;
     let without = words_of(alloc, asked.archive, &asked.without)?;
+    let names = asked_by(alloc, columns)?;
     Ok(Filters {
         exclude_from,
         attributes_from,
@@ -163,6 +179,6 @@ pub(crate) fn read_filters<'p, Y: System>(
         no_ignore: asked.no_ignore,
         without,
         only: OnlyPaths::none(alloc),
-        asked: Vec::new(alloc),
+        asked: names,
     })
 }

@@ -4,16 +4,18 @@ ghost use Rattle.std.specs.Prelude.{◌≡◌, ◌⊎◌, true, map, string_byte
 ghost use Rattle.std.specs.List.{AllZip};
 ghost use Rattle.lc_program.specs.Counts.{names_of};
 ghost use Rattle.lc_program.specs.Finds.{EndsAmong, EndsIn, Finds, FindsNone, HasLine, IsCauseIn, IsWalkedBelow, JoinsNone};
-ghost use Rattle.lc_program.specs.Finds.{JoinsWalks, line_in};
+ghost use Rattle.lc_program.specs.Finds.{FindsFor, FindsNoneFor, JoinsWalks, line_in};
 ghost use Rattle.lc_program.specs.WalkRequests.{entered_by};
 ghost use Rattle.lc_program.specs.declared.cause.Cause.TheVariants.{Memory};
 ghost use Rattle.lc_walk.specs.WalkOptions.{AreWithinLimits};
 ghost use Rattle.lc_walk.specs.Walks.{Walks};
 
+use crate::attributes::with_languages;
 use crate::cause::Cause;
 use crate::system::System;
 use lc_arguments::{CountRequest, WalkRequest, unslashed};
 use lc_reports::{joined, named};
+use lc_sheet::AttributeColumn;
 use lc_text::push_visible;
 use lc_tree::FileSystems;
 use lc_walk::{Options, Report, WalkFault, walk_first};
@@ -188,29 +190,27 @@ fn found_in<R: Threads + Wait + Sync + AllocGlobal, Y: System>(
     Ok(report)
 }
 
-/// Counts the directories that the command line names.
+/// Counts the directories that the command line names. The files have languages, if one of the columns shows these.
 pub(crate) fn found<R: Threads + Wait + Sync + AllocGlobal, Y: System>(
     rt: &R,
     system: &Y,
     asked: &CountRequest<'_>,
+    columns: &[AttributeColumn],
     options: &Options<'_>,
 ) -> Result<Report, Cause>
     requires limits { AreWithinLimits options.now }
-    ensures found { IfOk result (Finds
+    ensures found { IfOk result (FindsFor
         (λ d. Walks (Y.Tree.lists (Y.tree system.now d (entered_by asked.now.walk)))
         (Y.Tree.gives (Y.tree system.now d (entered_by asked.now.walk))) options.now)
-        (names_of asked.now)) }
-    ensures none { IfErr result (FindsNone
+        columns.now (names_of asked.now)) }
+    ensures none { IfErr result (FindsNoneFor
         (λ d. Walks (Y.Tree.lists (Y.tree system.now d (entered_by asked.now.walk)))
         (Y.Tree.gives (Y.tree system.now d (entered_by asked.now.walk))) options.now)
         (names_of asked.now)) }
     ensures files { IfOk result (λ report. options.now.lists.files ≡ true → report.lists.files ≡ true) }
 {
-    found_in(
-        rt,
-        system,
-        &asked.directories,
-        entered_by(&asked.walk),
-        options,
-    )
+    let entered = entered_by(&asked.walk);
+    let report = found_in(rt, system, &asked.directories, entered, options)?;
+    let report = with_languages(rt.alloc(), report, columns)?;
+    Ok(report)
 }

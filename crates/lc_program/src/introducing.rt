@@ -18,7 +18,7 @@ fn reads_paths(request: &Request<'_>) -> bool
             None => false,
         },
         Request::Explain(asked) => asked.paths.is_empty(),
-        Request::Sum(_) => false,
+        Request::Languages | Request::Sum(_) => false,
         Request::Diff(asked) => match asked.walk.only_from {
             Some(name) => name == "-",
             None => false,

@@ -6,6 +6,7 @@
 //! - `unread_reason`: why a directory or a file could not be read
 //! - `repository`: the repository above a directory
 //! - `streams`: the streams of the program, and which of them are terminals
+//! - `attributes`: the attributes that the command line names, as columns and as words to look for
 //! - `answering`, `answered`: answering each request, and the answers
 //! - `checking`: answering `lc check`
 //! - `counting`: answering `lc count`
@@ -39,6 +40,7 @@
 
 mod answered;
 mod answering;
+mod attributes;
 mod cause;
 mod checking;
 mod choices;

@@ -14,6 +14,7 @@ use lc_arguments::NamedReport;
 use lc_io::Source;
 use lc_reading::read_reports;
 use lc_reports::{Part, named};
+use lc_sheet::AttributeColumn;
 use lc_walk::Report;
 use std::alloc::{AllocError, Global};
 
@@ -56,27 +57,29 @@ fn parts_of<'w>(
     Ok(parts)
 }
 
-/// Reads the reports in one of the texts that the command line names: a file, or the input for `-`.
+/// Reads the reports in one of the texts that the command line names: a file, or the input for `-`. Their files have the states of
+/// `attributes`.
 fn read_parts<'w, Y: System, S: Source>(
     alloc: Global,
     system: &Y,
+    attributes: &[AttributeColumn],
     typed: NamedReport<'w>,
     input: &mut S,
 ) -> Result<Vec<Part<'w>>, Cause>
-    ensures parts { IfOk result (λ parts. ReadsParts S.may_give (Y.holds system.now) (report_model typed.entry) input.old parts.items
-        input.new) }
-    ensures refused { IfErr result (λ cause. Refuses S.may_give (Y.holds system.now) (Y.unreads system.now) (report_model typed.entry)
-        input.old cause input.new ⊎ (cause ≡ Memory)) }
+    ensures parts { IfOk result (λ parts. ReadsParts S.may_give (Y.holds system.now) attributes.now (report_model typed.entry)
+        input.old parts.items input.new) }
+    ensures refused { IfErr result (λ cause. Refuses S.may_give (Y.holds system.now) (Y.unreads system.now) attributes.now
+        (report_model typed.entry) input.old cause input.new ⊎ (cause ≡ Memory)) }
 {
     let text = match named_text(alloc, system, MAX_REPORT, typed.report, input) {
         Ok(text) => text,
         Err(fault) => return Err(cause_of_text(alloc, system, typed.report, fault)),
     };
-    let given = match read_reports(alloc, &text) {
+    let given = match read_reports(alloc, &text, attributes) {
         Ok(given) => given,
         Err(fault) => {
             let name = origin_of(typed.report);
-            return Err(cause_of_refusal(alloc, name.as_bytes(), fault));
+            return Err(cause_of_refusal(alloc, attributes, name.as_bytes(), fault));
         }
     };
     let parts = parts_of(alloc, typed, given)?;
@@ -87,15 +90,17 @@ fn read_parts<'w, Y: System, S: Source>(
 pub(crate) fn read_one<'w, Y: System, S: Source>(
     alloc: Global,
     system: &Y,
+    attributes: &[AttributeColumn],
     report: &'w str,
     input: &mut S,
 ) -> Result<Vec<Part<'w>>, Cause>
-    ensures parts { IfOk result (λ parts. ReadsParts S.may_give (Y.holds system.now) (None, report.entry.now) input.old parts.items
-        input.new) }
-    ensures refused { IfErr result (λ cause. Refuses S.may_give (Y.holds system.now) (Y.unreads system.now) (None, report.entry.now)
-        input.old cause input.new ⊎ (cause ≡ Memory)) }
+    ensures parts { IfOk result (λ parts. ReadsParts S.may_give (Y.holds system.now) attributes.now (None, report.entry.now)
+        input.old parts.items input.new) }
+    ensures refused { IfErr result (λ cause. Refuses S.may_give (Y.holds system.now) (Y.unreads system.now) attributes.now
+        (None, report.entry.now) input.old cause input.new ⊎ (cause ≡ Memory)) }
 {
-    read_parts(alloc, system, NamedReport { name: None, report }, input)
+    let typed = NamedReport { name: None, report };
+    read_parts(alloc, system, attributes, typed, input)
 }
 
 /// Reads the reports that the command line names, in their order. If a text can't be read or is refused, the function returns the error of
@@ -103,15 +108,16 @@ pub(crate) fn read_one<'w, Y: System, S: Source>(
 pub(crate) fn read_all<'w, Y: System, S: Source>(
     alloc: Global,
     system: &Y,
+    attributes: &[AttributeColumn],
     reports: &[NamedReport<'w>],
     input: &mut S,
 ) -> Result<Vec<Part<'w>>, Cause>
-    ensures { AnswersParts S.may_give (Y.holds system.now) (Y.unreads system.now) (map report_model reports.now) input.old result
-        input.new }
+    ensures { AnswersParts S.may_give (Y.holds system.now) (Y.unreads system.now) attributes.now (map report_model reports.now)
+        input.old result input.new }
 {
     let mut parts = Vec::new(alloc);
     for typed in reports {
-        let mut more = read_parts(alloc, system, *typed, input)?;
+        let mut more = read_parts(alloc, system, attributes, *typed, input)?;
         parts.append(&mut more)?;
     }
     Ok(parts)

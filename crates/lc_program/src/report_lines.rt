@@ -1,8 +1,9 @@
 //! The lines on standard error about reports that can't be read or added up.
 
-ghost use Rattle.std.specs.Prelude.{◌≡◌, ◌++◌, codes, string_bytes, IfOk};
+ghost use Rattle.std.specs.Prelude.{◌≡◌, ◌++◌, [], codes, string_bytes, IfOk};
 ghost use Rattle.lc_sheet.specs.Keys.{key_name};
-ghost use Rattle.lc_program.specs.ReportLines.{IsRefusedFor, IsTold, IsUnreadFor, IsUnsummedFor, MayBeWhy, no_report_text, origin_of};
+ghost use Rattle.lc_program.specs.ReportLines.{IsRefusedFor, IsTold, IsUnreadFor, IsUnsummedFor, MayBeWhy};
+ghost use Rattle.lc_program.specs.ReportLines.{no_attribute_text, no_report_text, origin_of};
 ghost use Rattle.lc_program.specs.ReportLines.{report_line, sums_text};
 ghost use Rattle.lc_program.specs.Reasons.{unexplained_line};
 
@@ -13,7 +14,7 @@ use crate::unread_reason::UnreadReason;
 use lc_io::WholeFault;
 use lc_reading::{NoReport, Part, ReadFault};
 use lc_reports::SumFault;
-use lc_sheet::Key;
+use lc_sheet::{AttributeColumn, Key};
 use lc_text::push_visible;
 use std::alloc::{AllocError, Global};
 
@@ -89,9 +90,14 @@ pub(crate) fn cause_of_text<Y: System>(
     }
 }
 
-/// Makes the text that says why a file or the input is no report, such as `no JSON object at byte 0`.
-fn no_report_text(alloc: Global, why: NoReport) -> Result<String, AllocError>
-    ensures { IfOk result (λ text. string_bytes text ≡ no_report_text why) }
+/// Makes the text that says why a file or the input is no report, such as `no JSON object at byte 0`. The columns of the attributes that
+/// are asked for are `attributes`.
+fn no_report_text(
+    alloc: Global,
+    attributes: &[AttributeColumn],
+    why: NoReport,
+) -> Result<String, AllocError>
+    ensures { IfOk result (λ text. string_bytes text ≡ no_report_text attributes.now why) }
 {
     match why {
         NoReport::Empty => String::from_str(alloc, "it is empty"),
@@ -99,6 +105,14 @@ fn no_report_text(alloc: Global, why: NoReport) -> Result<String, AllocError>
         NoReport::Missing(name) => format!(in alloc; "no member {name}"),
         NoReport::Twice(name) => format!(in alloc; "{name} twice"),
         NoReport::Bad(name) => format!(in alloc; "bad {name}"),
+        NoReport::AttributeTwice(place) => {
+            let name = Key::Attribute(place).name(attributes);
+            format!(in alloc; "{name} twice")
+        }
+        NoReport::BadAttribute(place) => {
+            let name = Key::Attribute(place).name(attributes);
+            format!(in alloc; "bad {name}")
+        }
     }
 }
 
@@ -114,50 +128,89 @@ fn sums_text(part: Part) -> &'static str
 }
 
 /// Makes the text that says why a file or the input is no report. The text follows the name of the file or the input.
-fn refusal_text(alloc: Global, why: NoReport) -> Result<String, AllocError>
-    ensures { IfOk result (λ text. string_bytes text ≡ codes "is no report: " ++ no_report_text why) }
+fn refusal_text(
+    alloc: Global,
+    attributes: &[AttributeColumn],
+    why: NoReport,
+) -> Result<String, AllocError>
+    ensures { IfOk result (λ text. string_bytes text ≡ codes "is no report: " ++ no_report_text attributes.now why) }
 {
-    let why = no_report_text(alloc, why)?;
+    let why = no_report_text(alloc, attributes, why)?;
     let mut text = String::from_str(alloc, "is no report: ")?;
     text.push_str(&why)?;
     Ok(text)
 }
 
 /// Makes the cause whose line says why a file or the input is no report.
-fn no_report_cause(alloc: Global, name: &[u8], why: NoReport) -> Cause
-    ensures { IsTold (report_line name.now (codes "is no report: " ++ no_report_text why)) result }
+fn no_report_cause(
+    alloc: Global,
+    attributes: &[AttributeColumn],
+    name: &[u8],
+    why: NoReport,
+) -> Cause
+    ensures { IsTold (report_line name.now (codes "is no report: " ++ no_report_text attributes.now why)) result }
 {
-    match refusal_text(alloc, why) {
+    match refusal_text(alloc, attributes, why) {
         Ok(text) => report_cause(alloc, name, &text),
         Err(AllocError) => Cause::Memory,
     }
 }
 
-/// Makes the cause that says why the text of a report is refused. `name` is the name that errors use for the report.
-pub(crate) fn cause_of_refusal(alloc: Global, name: &[u8], fault: ReadFault) -> Cause
-    ensures { IsRefusedFor name.now fault result }
+/// Makes the text that says that a report has no states of an attribute. The text follows the name of the report.
+fn no_attribute_text(alloc: Global, name: &str) -> Result<String, AllocError>
+    ensures { IfOk result (λ text. string_bytes text ≡ no_attribute_text name.now) }
+{
+    let mut text = String::from_str(alloc, "has no column ")?;
+    text.push_str(name)?;
+    text.push_str(": count with --files --by ")?;
+    text.push_str(name)?;
+    Ok(text)
+}
+
+/// Makes the cause whose line says that a report has no states of an attribute.
+fn no_attribute_cause(alloc: Global, name: &[u8], attribute: &str) -> Cause
+    ensures { IsTold (report_line name.now (no_attribute_text attribute.now)) result }
+{
+    match no_attribute_text(alloc, attribute) {
+        Ok(text) => report_cause(alloc, name, &text),
+        Err(AllocError) => Cause::Memory,
+    }
+}
+
+/// Makes the cause that says why the text of a report is refused. `name` is the name that errors use for the report. The columns of the
+/// attributes that are asked for are `attributes`.
+pub(crate) fn cause_of_refusal(
+    alloc: Global,
+    attributes: &[AttributeColumn],
+    name: &[u8],
+    fault: ReadFault,
+) -> Cause
+    ensures { IsRefusedFor attributes.now name.now fault result }
 {
     match fault {
         ReadFault::Memory => Cause::Memory,
-        ReadFault::NoReport(why) => no_report_cause(alloc, name, why),
+        ReadFault::NoReport(why) => no_report_cause(alloc, attributes, name, why),
         ReadFault::CutByTop => report_cause(alloc, name, "was cut by --top"),
         ReadFault::DoNotAddUp(part) => report_cause(alloc, name, sums_text(part)),
+        ReadFault::NoAttribute(place) => {
+            no_attribute_cause(alloc, name, Key::Attribute(place).name(attributes))
+        }
     }
 }
 
 /// Makes the text that says that a report lacks a column. The text follows the name of the report.
 fn no_column_text(alloc: Global, key: Key) -> Result<String, AllocError>
-    ensures { IfOk result (λ text. string_bytes text ≡ codes "has no column " ++ key_name key ++ codes ": count with --files") }
+    ensures { IfOk result (λ text. string_bytes text ≡ codes "has no column " ++ key_name [] key ++ codes ": count with --files") }
 {
     let mut text = String::from_str(alloc, "has no column ")?;
-    text.push_str(key.name())?;
+    text.push_str(key.name(&[]))?;
     text.push_str(": count with --files")?;
     Ok(text)
 }
 
 /// Makes the cause whose line says that a report lacks a column.
 fn no_column_cause(alloc: Global, name: &[u8], key: Key) -> Cause
-    ensures { IsTold (report_line name.now (codes "has no column " ++ key_name key ++ codes ": count with --files")) result }
+    ensures { IsTold (report_line name.now (codes "has no column " ++ key_name [] key ++ codes ": count with --files")) result }
 {
     match no_column_text(alloc, key) {
         Ok(text) => report_cause(alloc, name, &text),

@@ -53,13 +53,13 @@ impl From<PrintFault> for RunFault {
 /// Walks a tree, drops from its report the files that do not meet the conditions, and writes the table of the remaining report ([`table`]).
 /// Returns the remaining report.
 ///
-/// If the table has rows by directory (`--by dir`), the function requires that `options` request the list of files. A condition on a
-/// number, such as `lines > 1000`, is tested on the files in this list.
+/// If the table has rows by directories or attributes, the function requires that `options` request the list of files. A condition on a
+/// number or an attribute is tested on the files in this list.
 ///
 /// ```
 /// let tree = SysTree::new(&rt, rt.alloc(), "src", FileSystems::All)?;
 /// let table = TableOptions { output: Output::Text(Format::Tsv), by: Columns::ALL, sort: None, top: None, files: false, share: false };
-/// let shown = ReportOptions { table, conditions: &[], counted: b"src" };
+/// let shown = ReportOptions { table, conditions: &[], attributes: &[], counted: b"src" };
 /// let report = run(&rt, rt.alloc(), &tree, &options, shown, &mut out)?;
 /// assert!(report.faults.is_empty());
 /// ```
@@ -74,7 +74,8 @@ pub fn run<T: Tree, R: Threads + Wait + Sync, O: Sink>(
     requires limits { AreWithinLimits options.now }
     requires files { ListsFilesFor options.now shown.table }
     ensures { AnswersRun O.may_take (Walks (T.lists tree.now) (T.gives tree.now) options.now)
-        shown.entry.counted.now shown.entry.conditions.now shown.entry.table out.old result out.new }
+        shown.entry.counted.now shown.entry.conditions.now shown.entry.table
+        shown.entry.attributes.now out.old result out.new }
 {
     let mut report = walk(rt, alloc, tree, options)?;
     table(alloc, &mut report, shown, out)?;

@@ -5,6 +5,7 @@ ghost use Rattle.lc_program.specs.Sides.{CountsSide, GivesSide, GivesSides, IsSi
 ghost use Rattle.lc_program.specs.Systems.{may_of};
 ghost use Rattle.lc_walk.specs.WalkOptions.{AreWithinLimits};
 
+use crate::attributes::with_languages;
 use crate::cause::Cause;
 use crate::faults::has_path;
 use crate::finding::{cause_in, entered_by, first_numbers, walk_of};
@@ -15,6 +16,7 @@ use crate::unread_reason::UnreadReason;
 use lc_arguments::WalkRequest;
 use lc_io::Source;
 use lc_reports::{Needs, summed};
+use lc_sheet::AttributeColumn;
 use lc_walk::{Options, Report};
 use std::alloc::{AllocError, Global};
 use std::sync::Wait;
@@ -53,6 +55,8 @@ pub(crate) struct SideOptions<'o> {
     pub(crate) walk: &'o WalkRequest<'o>,
     /// The options of the walk of a side that is a directory.
     pub(crate) options: &'o Options<'o>,
+    /// The columns of attributes and of languages.
+    pub(crate) attributes: &'o [AttributeColumn],
     /// The columns and lists that the report of a side must have.
     pub(crate) needs: Needs,
 }
@@ -66,7 +70,7 @@ fn counted_side<R: Threads + Wait + Sync + AllocGlobal, Y: System>(
 ) -> Result<Report, Cause>
     requires limits { AreWithinLimits how.options.now }
     ensures counts { CountsSide (may_of Y.Tree.Tree Y.System system.now)
-        how.entry.walk.now how.entry.options.now name.now result }
+        how.entry.walk.now how.entry.options.now how.entry.attributes.now name.now result }
     ensures files { IfOk result (λ report. how.entry.options.now.lists.files ≡ true → report.lists.files ≡ true) }
 {
     let report = match walk_of(
@@ -84,6 +88,7 @@ fn counted_side<R: Threads + Wait + Sync + AllocGlobal, Y: System>(
         let why = system.why_unlisted(rt.alloc(), name)?;
         return Err(unread_cause(rt.alloc(), name, why));
     }
+    let report = with_languages(rt.alloc(), report, how.attributes)?;
     Ok(report)
 }
 
@@ -92,15 +97,15 @@ fn read_side<Y: System, S: Source>(
     alloc: Global,
     system: &Y,
     name: &str,
-    needs: Needs,
+    how: SideOptions<'_>,
     input: &mut S,
 ) -> Result<Report, Cause>
     ensures reads { ReadsSide (may_of Y.Tree.Tree Y.System system.now)
-        S.may_give needs name.now input.old result input.new }
-    ensures files { IfOk result (λ report. needs.files ≡ true → report.lists.files ≡ true) }
+        S.may_give how.entry.attributes.now how.entry.needs name.now input.old result input.new }
+    ensures files { IfOk result (λ report. how.entry.needs.files ≡ true → report.lists.files ≡ true) }
 {
-    let parts = read_one(alloc, system, name, input)?;
-    match summed(alloc, parts, needs) {
+    let parts = read_one(alloc, system, how.attributes, name, input)?;
+    match summed(alloc, parts, how.needs) {
         Ok(sum) => Ok(sum),
         Err(fault) => Err(cause_of_sum(alloc, fault)),
     }
@@ -117,13 +122,14 @@ fn side<R: Threads + Wait + Sync + AllocGlobal, Y: System, S: Source>(
     requires limits { AreWithinLimits how.options.now }
     requires lists { how.options.now.lists.files ≡ how.needs.files }
     ensures gives { GivesSide (may_of Y.Tree.Tree Y.System system.now)
-        S.may_give how.entry.walk.now how.entry.options.now how.entry.needs name.now input.old result input.new }
+        S.may_give how.entry.walk.now how.entry.options.now how.entry.attributes.now
+        how.entry.needs name.now input.old result input.new }
     ensures files { IfOk result (λ report. how.entry.needs.files ≡ true → report.lists.files ≡ true) }
 {
     if is_directory(rt.alloc(), system, name)? {
         return counted_side(rt, system, name, how);
     }
-    read_side(rt.alloc(), system, name, how.needs, input)
+    read_side(rt.alloc(), system, name, how, input)
 }
 
 /// Counts or reads both sides of a comparison, the old side first.
@@ -137,7 +143,8 @@ pub(crate) fn both_sides<R: Threads + Wait + Sync + AllocGlobal, Y: System, S: S
     requires limits { AreWithinLimits how.options.now }
     requires lists { how.options.now.lists.files ≡ how.needs.files }
     ensures gives { GivesSides (may_of Y.Tree.Tree Y.System system.now)
-        S.may_give how.entry.walk.now how.entry.options.now how.entry.needs names.entry.0.now names.entry.1.now input.old result input.new }
+        S.may_give how.entry.walk.now how.entry.options.now how.entry.attributes.now
+        how.entry.needs names.entry.0.now names.entry.1.now input.old result input.new }
     ensures files { IfOk result (λ both. how.entry.needs.files ≡ true → (both.0.lists.files ≡ true) × (both.1.lists.files ≡ true)) }
 {
     let old = side(rt, system, names.0, how, input)?;

@@ -9,6 +9,7 @@ ghost use Rattle.lc_program.specs.Systems.{may_of};
 ghost use Rattle.lc_rows.specs.WalkedReports.{HasFilesFor};
 
 use crate::answered::Answered;
+use crate::attributes::columns_of;
 use crate::cause::Cause;
 use crate::report_files::read_all;
 use crate::report_lines::cause_of_sum;
@@ -76,9 +77,11 @@ fn print_sum<O: Sink>(
     ensures { PrintsSum O.may_take format asked.now sum out.old result out.new }
 {
     let counted = one_text(alloc, &asked.reports)?;
+    let columns = columns_of(alloc, &asked.attributes)?;
     let options = ReportOptions {
         table: asked.table.options(format, sum.columns),
         conditions: &asked.conditions,
+        attributes: &columns,
         counted: &counted,
     };
     let mut report = sum;
@@ -115,7 +118,8 @@ pub(crate) fn sum<Y: System, S: Source, O: Sink>(
     ensures { AnswersSum (may_of Y.Tree.Tree Y.System system.now)
         S.may_give O.may_take format asked.now input.old out.old result input.new out.new }
 {
-    let parts = read_all(alloc, system, &asked.reports, input)?;
+    let columns = columns_of(alloc, &asked.attributes)?;
+    let parts = read_all(alloc, system, &columns, &asked.reports, input)?;
     let report = sum_parts(alloc, asked, parts, format, out)?;
     Ok(Answered::Summed(report))
 }

@@ -57,6 +57,8 @@ pub(crate) fn unmatched_in(alloc: Global, request: &Request<'_>) -> Result<Strin
         Request::Count(asked) => unmatched_of(alloc, &asked.walk.filters),
         Request::Diff(asked) => unmatched_of(alloc, &asked.walk.filters),
         Request::Explain(asked) => unmatched_of(alloc, &asked.filters),
-        Request::CheckJoined | Request::Check(_) | Request::Sum(_) => Ok(String::new(alloc)),
+        Request::CheckJoined | Request::Check(_) | Request::Languages | Request::Sum(_) => {
+            Ok(String::new(alloc))
+        }
     }
 }

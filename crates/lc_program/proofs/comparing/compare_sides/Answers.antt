@@ -1,6 +1,6 @@
 use Rattle.std.proofs.{Common.{◌∙◌, ℕ, List, ap, inl, inr, map, refl, subst}, lemmas.Result.IfOk-weaker}
-use Rattle.lc_level.specs.NamedAttributes.{attributes_of}
 use Rattle.lc_program.specs.{Differences.{compared_lists, compared_needs}, Replies.IsReplyWith, Systems.{SystemMay, may_of}}
+use Rattle.lc_program.specs.WalkRequests.{columns_of, named_in}
 use Rattle.lc_program.specs.declared.{answered.Answered.TheVariants.Compared, cause.Cause.TheVariants.Memory}
 use Rattle.lc_program.proofs.{ComparedNeeds.{files_needed, sides_given}, FiltersAsked.{asked_by_all, memory_wanted}, Loading.given_up}
 use Rattle.lc_program.proofs.comparing.compare_sides.Goals as goal
@@ -14,9 +14,13 @@ returns-in_err-filters g c =
       refl,
     )
 
+pub returns-in_err-columns : goal.returns-in_err-columns
+returns-in_err-columns g c =
+    inr (Memory, inl (inr refl, refl), given_up c.from_residual.result Memory c.from_residual.ensures.1, refl)
+
 pub returns-in_err-named : goal.returns-in_err-named
 returns-in_err-named g c =
-    inr (Memory, inl (inr refl, refl), given_up c.from_residual.result Memory c.from_residual.ensures.1, refl)
+    inr (Memory, inl (inr refl, refl), given_up c.from_residual-in_err-named.result Memory c.from_residual-in_err-named.ensures.1, refl)
 
 pub returns-in_err-list : goal.returns-in_err-list
 returns-in_err-list g c =
@@ -72,7 +76,7 @@ returns g c =
       c.list_of.new.input,
       (
         c.in_ok-filters.filters,
-        c.in_ok-filters.ensures,
+        rw c.deref-3.ensures.value at c.in_ok-filters.ensures,
         (
           c.in_ok-wanted.wanted,
           inl (
@@ -87,13 +91,14 @@ returns g c =
       ),
       (
         c.both_sides-sides.result,
-        sides_given may g.S.Source.may_give d.walk c.options_of-options.result c.compared_needs.result (compared_needs d) d.old.now
-            d.new.now c.list_of.new.input c.both_sides-sides.result c.both_sides-sides.new.input c.compared_needs.ensures
+        sides_given may g.S.Source.may_give d.walk c.options_of-options.result c.deref-4.result.now _ c.compared_needs.result
+            (compared_needs d) d.old.now d.new.now c.list_of.new.input c.both_sides-sides.result c.both_sides-sides.new.input
+            (c.deref-4.ensures.value ∙ c.in_ok-columns.ensures ∙ ap columns_of c.deref.ensures.value) c.compared_needs.ensures
             c.both_sides-sides.ensures.gives,
         (
           c.print_sides-compared.result,
           subst (λ (l : List (List ℕ)). IsReplyWith Compared l c.print_sides-compared.result c.replied.result)
-              (c.in_ok-named.ensures ∙ ap attributes_of c.deref.ensures.value) c.replied.ensures,
+              (c.in_ok-named.ensures ∙ ap (named_in d.walk) c.deref-2.ensures.value) c.replied.ensures,
           c.print_sides-compared.ensures,
         ),
       ),

@@ -1,6 +1,5 @@
 use Rattle.std.proofs.Common.{◌≡◌, ◌∙◌, ◌||◌, ℕ, Bool, true, false, List, ap, inl, inr, map, refl, subst}
-use Rattle.lc_level.specs.NamedAttributes.{attributes_of}
-use Rattle.lc_program.specs.{Counts.lists_of, Replies.IsReplyWith}
+use Rattle.lc_program.specs.{Counts.lists_of, Replies.IsReplyWith, WalkRequests.named_in}
 use Rattle.lc_program.specs.declared.{answered.Answered.TheVariants.Counted, cause.Cause.TheVariants.Memory}
 use Rattle.lc_walk.specs.declared.options.ReportLists.{ReportLists}
 use Rattle.lc_program.proofs.{FiltersAsked.{asked_by_all, memory_wanted}, Loading.given_up}
@@ -52,7 +51,7 @@ returns-in_err-filters-2 g c =
       refl,
     )
 
--- rows by directory need the list of files
+-- rows by directories or attributes need the list of files
 listed : (a b c d : Bool) → b ≡ true → (a || b || c || d) ≡ true
 listed true b c d is = refl
 listed false b c d is = ap (λ x. x || c || d) is
@@ -68,7 +67,7 @@ returns g c =
       c.options_of-options.result,
       (
         c.in_ok-filters.filters,
-        c.in_ok-filters.ensures,
+        rw c.deref-2.ensures.value at c.in_ok-filters.ensures,
         (
           c.in_ok-wanted.wanted,
           inl (
@@ -83,7 +82,7 @@ returns g c =
       (
         c.print_found-counted.result,
         subst (λ (l : List (List ℕ)). IsReplyWith Counted l c.print_found-counted.result c.replied.result)
-            (c.in_ok-named.ensures ∙ ap attributes_of c.deref.ensures.value) c.replied.ensures,
+            (c.in_ok-named.ensures ∙ ap (named_in c.args.asked.now.walk) c.deref.ensures.value) c.replied.ensures,
         c.print_found-counted.ensures,
       ),
     )

@@ -11,6 +11,7 @@ loop-report-preserved c =
       append_assoc c.loop-report.yielded (c.in-Some.report ∷ []) c.next.new.self.rest.items ∙ ap (λ x. c.loop-report.yielded ++ x)
           (sym c.in-Some.ensures.steps.0) ∙ all,
       subst (AllZip (IsPartOf (report_model c.args.typed)) (c.loop-report.yielded ++ c.in-Some.report ∷ []))
-          (sym c.in_ok-push.ensures.items) (zip_more (IsPartOf (report_model c.args.typed)) c.loop-report.yielded c.loop-report.parts.items c.in-Some.report
+          (sym c.in_ok-push.ensures.items) (zip_more (IsPartOf (report_model c.args.typed)) c.loop-report.yielded
+          c.loop-report.parts.items c.in-Some.report
           c.in_ok-part_of.field-0 so_far c.in_ok-part_of.ensures),
     )

@@ -16,8 +16,8 @@ pub returns-in_err-table : goal.returns-in_err-table
 returns-in_err-table g c =
     run_stops g.O.Sink.may_take (Walks (g.T.Tree.lists c.args.tree.now)
     (g.T.Tree.gives c.args.tree.now) c.args.options.now) c.args.shown.counted.now c.args.shown.conditions.now c.args.shown.table
-    c.in_ok-report.report
-    c.table.new.report c.in_err-table.field-0.0 c.from_residual-in_err-table.result c.args.out.now c.table.new.out c.in_ok-report.ensures
+    c.args.shown.attributes.now c.in_ok-report.report c.table.new.report c.in_err-table.field-0.0 c.from_residual-in_err-table.result
+    c.args.out.now c.table.new.out c.in_ok-report.ensures
     c.in_err-table.ensures c.from_residual-in_err-table.ensures.1
 
 pub returns : goal.returns

@@ -1,4 +1,4 @@
-use Rattle.std.proofs.Common.{◌∙◌, inl, refl, string_bytes, sym}
+use Rattle.std.proofs.Common.{◌∙◌, inl, string_bytes, sym}
 use Rattle.lc_program.proofs.Told.{made_and_printed, told_unless}
 use Rattle.lc_program.proofs.side_faults.tell_side_faults.Goals as goal
 

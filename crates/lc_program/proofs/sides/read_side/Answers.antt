@@ -7,7 +7,8 @@ pub returns-in_err-parts-clause-reads : goal.returns-in_err-parts-clause-reads
 returns-in_err-parts-clause-reads g c =
     let system = c.args.system.now in
     let may : SystemMay = may_of g.Y.Tree.Tree g.Y.System system in
-    side_unread may g.S.Source.may_give c.args.needs c.args.name.now c.args.input.now c.read_one.new.input c.from_residual.result
+    side_unread may g.S.Source.may_give c.args.how.attributes.now c.args.how.needs c.args.name.now c.args.input.now c.read_one.new.input
+    c.from_residual.result
     c.in_err-parts.field-0.0 c.from_residual.ensures.1 c.in_err-parts.ensures.refused
 
 pub returns-in-Ok-clause-reads : goal.returns-in-Ok-clause-reads

@@ -1,5 +1,5 @@
-use Rattle.std.proofs.Common.{ap, inl, sym}
-use Rattle.lc_program.specs.Sums.{sum_reply}
+use Rattle.std.proofs.Common.{◌∙◌, ap, inl, sym}
+use Rattle.lc_program.specs.{Sums.sum_reply, WalkRequests.columns_of}
 use Rattle.lc_program.proofs.Loading.{sum_replied}
 use Rattle.lc_program.proofs.summing.sum.Goals as goal
 
@@ -7,7 +7,8 @@ pub returns-in_err-report : goal.returns-in_err-report
 returns-in_err-report g c =
     inl (
       c.in_ok-parts.parts,
-      rw c.deref.ensures.value at c.in_ok-parts.ensures,
+      rw (c.deref-2.ensures.value ∙ c.in_ok-columns.ensures ∙ ap columns_of c.deref.ensures.value, c.deref-3.ensures.value) at
+          c.in_ok-parts.ensures,
       (
         c.sum_parts.result,
         sum_replied c.from_residual-in_err-report.result c.sum_parts.result c.in_err-report.field-0.0
@@ -20,6 +21,7 @@ pub returns : goal.returns
 returns g c =
     inl (
       c.in_ok-parts.parts,
-      rw c.deref.ensures.value at c.in_ok-parts.ensures,
+      rw (c.deref-2.ensures.value ∙ c.in_ok-columns.ensures ∙ ap columns_of c.deref.ensures.value, c.deref-3.ensures.value) at
+          c.in_ok-parts.ensures,
       (c.sum_parts.result, sym (ap sum_reply c.in_ok-report.was), c.sum_parts.ensures),
     )
