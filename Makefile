@@ -43,6 +43,8 @@ test-program: lc
 	tools/examples
 	tools/test-program
 	tools/test-reports
+	tools/languages
+	tools/test-languages
 
 # random rules and trees through git, a fixed small part of them
 test-git: lc

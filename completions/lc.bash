@@ -35,7 +35,7 @@ _lc_value() {
     --only-from) mapfile -t COMPREPLY < <(compgen -f -- "$2") ;;
     --where) ;;
     --format) mapfile -t COMPREPLY < <(compgen -W 'tsv table json csv markdown html' -- "$2") ;;
-    --by) mapfile -t COMPREPLY < <(compgen -W "$(_lc_columns "$2" dir ext text eol)" -- "$2") ;;
+    --by) mapfile -t COMPREPLY < <(compgen -W "$(_lc_columns "$2" dir lang ext text eol)" -- "$2") ;;
     --depth) mapfile -t COMPREPLY < <(compgen -W '1 2 3' -- "$2") ;;
     --sort) mapfile -t COMPREPLY < <(compgen -W 'name files lines blank bytes' -- "$2") ;;
     --top) mapfile -t COMPREPLY < <(compgen -W '10 20 50' -- "$2") ;;
@@ -50,7 +50,7 @@ _lc_value() {
 _lc_counts() {
   case $1 in
     -* | . | .. | */*) ;;
-    count | sum | diff | explain | check | help) return 1 ;;
+    count | sum | diff | explain | check | languages | help) return 1 ;;
     *) [[ $2 -gt 1 && -d $1 ]] ;;
   esac
 }
@@ -63,7 +63,7 @@ _lc() {
     command=count
     [ "$COMP_CWORD" -gt 1 ] || options+=' --version -V'
   elif [ "$COMP_CWORD" -eq 1 ]; then
-    mapfile -t COMPREPLY < <(compgen -W 'count sum diff explain check help' -- "$current"; compgen -d -- "$current")
+    mapfile -t COMPREPLY < <(compgen -W 'count sum diff explain check languages help' -- "$current"; compgen -d -- "$current")
     return
   fi
   # bash takes the = of --threads=8 as a word
@@ -83,7 +83,8 @@ _lc() {
         *) mapfile -t COMPREPLY < <(compgen -f -- "$current") ;;
       esac
       ;;
-    help) mapfile -t COMPREPLY < <(compgen -W 'count sum diff explain check' -- "$current") ;;
+    languages) mapfile -t COMPREPLY < <(compgen -W "$options" -- "$current") ;;
+    help) mapfile -t COMPREPLY < <(compgen -W 'count sum diff explain check languages' -- "$current") ;;
   esac
 }
 

@@ -5,7 +5,7 @@
 function __lc_command_is
     set -l words (commandline -opc) (commandline -ct)
     switch "$words[2]"
-        case count sum diff explain check help
+        case count sum diff explain check languages help
             test (count (commandline -opc)) -gt 1; and contains -- $words[2] $argv
         case '-*' . .. '*/*'
             contains -- count $argv
@@ -28,6 +28,7 @@ complete -c lc -n __fish_use_subcommand -a sum -d 'Add reports'
 complete -c lc -n __fish_use_subcommand -a diff -d 'Compare two directories or reports'
 complete -c lc -n __fish_use_subcommand -a explain -d 'Show which rule skips or keeps a path'
 complete -c lc -n __fish_use_subcommand -a check -d 'Match paths against the rules of one file'
+complete -c lc -n __fish_use_subcommand -a languages -d 'Print the list of languages'
 complete -c lc -n __fish_use_subcommand -a help -d 'Print help'
 complete -c lc -n __fish_use_subcommand -a '(__fish_complete_directories)'
 complete -c lc -n __fish_use_subcommand -l version -s V -d 'Print the version'
@@ -49,7 +50,7 @@ complete -c lc -n '__lc_command_is count sum' -l left-out -d 'Also print each sk
 complete -c lc -n '__lc_command_is count sum diff' -l where -x -d 'Show only files that meet a condition'
 complete -c lc -n '__lc_command_is count sum diff' -l no-binary -d 'Show only files without a NUL byte'
 complete -c lc -n '__lc_command_is count sum' -l format -x -a "tsv\t'Fields between tabs' table\t'Columns for reading' json\t'One object' csv\t'Records of one kind' markdown\t'Tables for a page' html\t'A picture for a browser'" -d 'How to print'
-complete -c lc -n '__lc_command_is count sum' -l by -x -a '(__lc_columns dir ext text eol)' -d 'Sum rows by these columns'
+complete -c lc -n '__lc_command_is count sum' -l by -x -a '(__lc_columns dir lang ext text eol)' -d 'Sum rows by these columns'
 complete -c lc -n '__lc_command_is count sum diff' -l depth -x -a '1 2 3' -d 'Cut the directories of --by dir after so many names'
 complete -c lc -n '__lc_command_is count sum' -l sort -x -a "name\t'By name' files\t'Most files first' lines\t'Most lines first' blank\t'Most blank lines first' bytes\t'Most bytes first'" -d 'Sort rows and files, largest first, or by name'
 complete -c lc -n '__lc_command_is count sum diff' -l top -x -a '10 20 50' -d 'Print only the first rows and files'
@@ -60,7 +61,7 @@ complete -c lc -n '__lc_command_is count diff' -l max-dirs -x -a '65536 1048576'
 complete -c lc -n '__lc_command_is diff' -l all -d 'Also print rows in which nothing changed'
 complete -c lc -n '__lc_command_is diff' -l files -d 'Also print a line for each file that differs'
 complete -c lc -n '__lc_command_is diff' -l format -x -a "tsv\t'Fields between tabs' table\t'Columns for reading' json\t'One object' csv\t'Records of one kind' markdown\t'Tables for a page'" -d 'How to print'
-complete -c lc -n '__lc_command_is diff' -l by -x -a '(__lc_columns dir ext text eol)' -d 'Sum rows by these columns'
+complete -c lc -n '__lc_command_is diff' -l by -x -a '(__lc_columns dir lang ext text eol)' -d 'Sum rows by these columns'
 complete -c lc -n '__lc_command_is diff' -l sort -x -a "name\t'By name' files\t'Largest change of files first' lines\t'Largest change of lines first' blank\t'Largest change of blank lines first' bytes\t'Largest change of bytes first'" -d 'Sort rows and files, largest change first, or by name'
 complete -c lc -n '__lc_command_is diff' -l fail-if-any -d 'Exit with status 4 if a row or a file differs'
 complete -c lc -n '__lc_command_is check' -l explain -d 'Also print the rule that decides'
@@ -71,4 +72,4 @@ complete -c lc -n '__lc_command_is explain' -F
 complete -c lc -n '__lc_command_is check' -F
 complete -c lc -n '__lc_command_is sum' -F
 complete -c lc -n '__lc_command_is diff' -F
-complete -c lc -n '__lc_command_is help' -a 'count sum diff explain check'
+complete -c lc -n '__lc_command_is help' -a 'count sum diff explain check languages'

@@ -18,6 +18,10 @@ class Refused(Exception):
     """No report; its text is what follows the name of the report in the line of the error, or the class of it."""
 
 
+class Lacking(Refused):
+    """A report whose files have no states of an attribute that is asked for; its text is the name of the attribute's column."""
+
+
 class Digits(str):
     """A number as it is written."""
 
@@ -187,9 +191,22 @@ def entry_path(members):
     return path
 
 
-def file(members):
-    return {"path": entry_path(members), "text": word(members, "text", TEXTS), "eol": word(members, "eol", EOLS),
+def state(members, name):
+    """The state of an attribute: None if it is unspecified, True or False if it is set or unset, or the bytes of its value."""
+    found, numbers = values(members, name), values(members, name + "_bytes")
+    if len(found) + len(numbers) > 1:
+        raise Refused(f"{name} twice")
+    if numbers:
+        return listed(name, numbers[0])
+    if not found:
+        raise Lacking(name)
+    return found[0] if found[0] is None or isinstance(found[0], bool) else plain(name, found[0])
+
+
+def file(members, attributes):
+    read = {"path": entry_path(members), "text": word(members, "text", TEXTS), "eol": word(members, "eol", EOLS),
             "lines": number(members, "lines"), "blank": number(members, "blank"), "bytes": number(members, "bytes")}
+    return {**read, **{name: state(members, name) for name in attributes}}
 
 
 def is_rule_file(path, name):
@@ -249,14 +266,14 @@ def by_key(rows):
     return tally
 
 
-def report(members):
-    """The report in an object."""
+def report(members, attributes):
+    """The report in an object, whose files have the states of attributes, each given by the name of its column."""
     rows = [row(line) for line in lines_of(members, "rows")]
     total, text, binary = (sums(object_of(members, name)) for name in ("total", "text", "binary"))
     made = {"total": total, "text": text, "binary": binary, "directories": number(members, "directories"),
             "faults": [fault(line) for line in lines_of(members, "faults")], "files": None, "left": None, "entries": None}
     if values(members, "files"):
-        made["files"] = [file(line) for line in lines_of(members, "files")]
+        made["files"] = [file(line, attributes) for line in lines_of(members, "files")]
     if values(members, "left") or values(members, "entries"):
         made["left"] = [skipped(line) for line in lines_of(members, "left")]
         made["entries"] = number(members, "entries")
@@ -267,11 +284,13 @@ def report(members):
         raise Refused("was cut by --top")
     if made["files"] is not None and len(made["files"]) < total[0]:
         raise Refused("was cut by --top")
-    check_sums(made, rows)
+    check_sums(made, rows, attributes)
+    if attributes and made["files"] is None:
+        raise Lacking(attributes[0])
     return made
 
 
-def check_sums(made, rows):
+def check_sums(made, rows, attributes):
     """Keeps rows whose sums are right, made of the files where they are listed."""
     total = made["total"]
     if added([line for _, line in rows]) != total or added([made["text"], made["binary"]]) != total:
@@ -284,15 +303,15 @@ def check_sums(made, rows):
     if made["files"] is not None:
         if added([counted(one_file) for one_file in made["files"]]) != total:
             raise Refused("do not add up")
-        rows = [({"ext": extension_of(f["path"]), "text": f["text"], "eol": f["eol"]}, counted(f)) for f in made["files"]]
-        columns = set(COLUMNS)
+        columns = {*COLUMNS, *attributes}
+        rows = [({"ext": extension_of(f["path"]), **{c: f[c] for c in columns if c != "ext"}}, counted(f)) for f in made["files"]]
         if added([line for key, line in rows if key["eol"] == "nul"]) != made["binary"]:
             raise Refused("do not add up")
     made["columns"], made["rows"] = columns, rows
 
 
-def reports(data):
-    return [report(members) for members in objects(data)]
+def reports(data, attributes=()):
+    return [report(members, attributes) for members in objects(data)]
 
 
 # ---- names and sums

@@ -264,6 +264,15 @@ def text_state(state):
     return {b"set": "set", b"unset": "unset", b"=auto": "auto", b"unspecified": "-"}.get(state, "other")
 
 
+def state_order(state):
+    """Where a state stands in the order of rows: unspecified, set, unset, then values."""
+    return (3, state[1:]) if state.startswith(b"=") else ([b"unspecified", b"set", b"unset"].index(state), b"")
+
+
+def state_word(state):
+    return escaped(state[1:]) if state.startswith(b"=") else {b"unspecified": b"-"}.get(state, state)
+
+
 def extension(path):
     name = path.rpartition(b"/")[2]
     dot = name.rfind(b".")
@@ -311,11 +320,12 @@ class Tree:
     """A tree: a dictionary of names, a folder a dictionary, a file its bytes, anything else None.
 
     `without` has attributes: what has one of them Set is left out. `failing` has what can't be read: pairs of "list" and a directory's
-    path, "rules" or "count" and a file's. `lowest` is the text of the attribute file that each other one overrides.
+    path, "rules" or "count" and a file's. `lowest` is the text of the attribute file that each other one overrides. `asked` has the
+    attributes that rows are by.
     """
 
-    def __init__(self, tree, without=(), exclude=b"", failing=(), lowest=b""):
-        self.tree, self.without, self.exclude, self.failing, self.lowest = tree, without, exclude, failing, lowest
+    def __init__(self, tree, without=(), exclude=b"", failing=(), lowest=b"", asked=()):
+        self.tree, self.without, self.exclude, self.failing, self.lowest, self.asked = tree, without, exclude, failing, lowest, asked
         self.info, self.info_macros, self.attribute_files = [], {}, []
 
     def top(self):
@@ -361,8 +371,8 @@ class Tree:
                     here.lines + [(offset, *line) for line in own], {**here.macros, **own_macros})
 
     def unnamed(self):
-        """The lines of standard error about attributes of `without` that no attribute file has."""
-        missing = [it for it in self.without if not any(it in text for text in self.attribute_files)]
+        """The lines of standard error about attributes of `without` or `asked` that no attribute file has."""
+        missing = [it for it in [*self.without, *self.asked] if not any(it in text for text in self.attribute_files)]
         return b"".join(b"lc: no attribute file names " + escaped(it) + b"\n" for it in missing)
 
     def states(self, here, path, is_dir):
@@ -436,9 +446,9 @@ class Explained(Tree):
 class Walk(Tree):
     """The recursive walk of a tree, or where `only` has paths of what stands at or below one of them."""
 
-    def __init__(self, tree, without=(), exclude=b"", failing=(), only=(), lowest=b""):
-        super().__init__(tree, without, exclude, failing, lowest)
-        self.only = set(only)
+    def __init__(self, tree, without=(), exclude=b"", failing=(), only=(), lowest=b"", asked=()):
+        super().__init__(tree, without, exclude, failing, lowest, asked)
+        self.only, self.asked_of = set(only), {}
         self.files, self.faults, self.absent, self.left, self.directories, self.entries = [], [], [], [], 0, 0
         try:
             here = self.top()
@@ -479,23 +489,31 @@ class Walk(Tree):
             elif ("count", path) in self.failing:
                 self.faults.append(path)
             else:
-                self.files.append((path, text_state(self.states(here, path, is_dir).get(b"text", b"unspecified")), *census(entry)))
+                states = self.states(here, path, is_dir)
+                self.asked_of[path] = [states.get(it, b"unspecified") for it in self.asked]
+                self.files.append((path, text_state(states.get(b"text", b"unspecified")), *census(entry)))
+
+    def key(self, path, text, eol):
+        """The order of a file's row among the rows, and what the row begins with."""
+        if self.asked:
+            return [state_order(it) for it in self.asked_of[path]], [*map(state_word, self.asked_of[path]), b"*", b"*", b"*"]
+        found = extension(path)
+        order = [found is not None, found or b"", ["set", "unset", "auto", "other", "-"].index(text),
+                 ["none", "lf", "crlf", "cr", "mixed", "nul"].index(eol)]
+        return order, [b"-" if found is None else b"." + escaped(found), text.encode(), eol.encode()]
 
     def table(self, left_out=False):
         rows, total = {}, [0, 0, 0, 0]
         for path, text, lines, blank, size, eol in self.files:
-            found = extension(path)
-            key = (found is not None, found or b"", ["set", "unset", "auto", "other", "-"].index(text),
-                   ["none", "lf", "crlf", "cr", "mixed", "nul"].index(eol), text, eol)
-            row = rows.setdefault(key, [0, 0, 0, 0])
+            order, words = self.key(path, text, eol)
+            _, row = rows.setdefault(tuple(order), (words, [0, 0, 0, 0]))
             for sums in (row, total):
                 for column, more in enumerate((1, lines, blank, size)):
                     sums[column] += more
-        out = [b"ext\ttext\teol\tfiles\tlines\tblank\tbytes"]
-        for key in sorted(rows):
-            word = b"." + escaped(key[1]) if key[0] else b"-"
-            out.append(b"\t".join([word, key[4].encode(), key[5].encode(), *(b"%d" % it for it in rows[key])]))
-        out.append(b"\t".join([b"total", b"*", b"*", *(b"%d" % it for it in total)]))
+        columns = [*(b"attr:" + it for it in self.asked), b"ext", b"text", b"eol"]
+        out = [b"\t".join([*columns, b"files", b"lines", b"blank", b"bytes"])]
+        lines = [rows[order] for order in sorted(rows)] + [([b"total", *[b"*"] * (len(columns) - 1)], total)]
+        out += [b"\t".join([*words, *(b"%d" % it for it in sums)]) for words, sums in lines]
         out.append(b"directories\t%d" % self.directories)
         if left_out:
             out.append(b"entries\t%d" % self.entries)
