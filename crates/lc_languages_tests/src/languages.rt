@@ -3,7 +3,7 @@
 use lc_languages::{LANGUAGES, Languages};
 use std::test::Fail;
 
-/// Names with their languages by the program's list. A dash stands for no language.
+/// Names with their languages in the program's list. A dash means no language.
 const NAMES: &[(&str, &str)] = &[
     ("a.c", "C"),
     ("a.C", "C++"),
