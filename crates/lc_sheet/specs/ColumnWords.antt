@@ -7,7 +7,7 @@ use Rattle.lc_sheet.specs.declared.column.{Number.{Number as NumberColumn, TheVa
 use Rattle.lc_sheet.specs.declared.column.Side.{Side, TheVariants.{Left, Right, End}}
 use Rattle.lc_sheet.specs.declared.column.Column.{Column}
 use Rattle.lc_sheet.specs.declared.column.Column.TheVariants.{Key, Number, Share, Bar, Path, Kind, Reason, Place, Entry, File}
-use Rattle.lc_sheet.specs.declared.column.Column.TheVariants.{Line, Attribute, Fault, Site, Change, Old, New, Difference}
+use Rattle.lc_sheet.specs.declared.column.Column.TheVariants.{Line, Attribute, Fault, Site, Change, Old, New, Difference, Growth}
 use Rattle.lc_sheet.specs.Keys.{key_name}
 use Rattle.lc_sheet.specs.declared.column.Compared.TheVariants as compared
 use Rattle.lc_sheet.specs.declared.key.Key.TheVariants as key
@@ -56,6 +56,7 @@ column_word attributes Change = codes "change"
 column_word attributes (Old c) = compared_name attributes c
 column_word attributes (New c) = compared_name attributes c
 column_word attributes (Difference n) = difference_name n
+column_word attributes (Growth n) = []
 
 -- the name of a column in the formats that programs read
 abbrev pub column_name : List (List ℕ) → Column → NameModel
@@ -97,6 +98,7 @@ side_of Share = Right
 side_of (Old (compared.Number n)) = Right
 side_of (New (compared.Number n)) = Right
 side_of (Difference n) = Right
+side_of (Growth n) = Right
 side_of Path = End
 side_of Entry = End
 side_of Site = End

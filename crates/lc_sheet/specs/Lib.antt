@@ -4,3 +4,4 @@ pub mod ColumnWords
 pub mod Values
 pub mod Sheets
 pub mod Conditions
+pub mod ChangeKinds

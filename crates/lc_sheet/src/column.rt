@@ -81,6 +81,8 @@ pub enum Column {
     New(Compared),
     /// The change of a number, with its sign. This column follows the column of the number, and has no heading.
     Difference(Number),
+    /// The change of a number in per cent of the old number. This column follows the column of the change, and has no name and no heading.
+    Growth(Number),
 }
 
 impl Number {
@@ -175,6 +177,7 @@ impl Column {
             Column::Change => "change",
             Column::Old(compared) | Column::New(compared) => compared.name(attributes),
             Column::Difference(number) => difference_name(number),
+            Column::Growth(_) => "",
         }
     }
 
@@ -205,7 +208,18 @@ impl Column {
             Column::Place => b"by".as_slice(),
             Column::Entry => b"path".as_slice(),
             Column::Fault => b"fault".as_slice(),
-            _ => self.word(attributes).as_bytes(),
+            Column::Key(_)
+            | Column::Number(_)
+            | Column::Share
+            | Column::Kind
+            | Column::File
+            | Column::Line
+            | Column::Attribute
+            | Column::Site
+            | Column::Change
+            | Column::Old(_)
+            | Column::New(_)
+            | Column::Growth(_) => self.word(attributes).as_bytes(),
         };
         plain_name(text)
     }
@@ -219,7 +233,8 @@ impl Column {
             | Column::Share
             | Column::Old(Compared::Number(_))
             | Column::New(Compared::Number(_))
-            | Column::Difference(_) => Side::Right,
+            | Column::Difference(_)
+            | Column::Growth(_) => Side::Right,
             Column::Path | Column::Entry | Column::Site => Side::End,
             _ => Side::Left,
         }

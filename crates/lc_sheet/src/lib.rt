@@ -11,9 +11,11 @@
 //! - `sheet`: the sections of a report, or of a comparison of two reports
 //! - `table_options`: the format of a table, its columns, its order, and where it is cut
 //! - `condition`: conditions on files, such as `lines>1000`
+//! - `change_kinds`: what became of files from an old report to a new one
 #![tactic(auto)]
 
 mod attribute_column;
+mod change_kinds;
 mod column;
 mod condition;
 mod form;
@@ -25,6 +27,7 @@ mod table_options;
 mod value;
 
 pub use attribute_column::{AttributeColumn, attribute_of};
+pub use change_kinds::ChangeKinds;
 pub use column::{Column, Compared, Number, Side};
 pub use condition::{Comparison, Condition, Test, needs_files};
 pub use form::{Form, Shares};

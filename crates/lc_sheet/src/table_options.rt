@@ -8,6 +8,7 @@ use crate::attribute_column::AttributeColumn;
 use crate::column::Number;
 use crate::condition::Condition;
 use crate::key::Key;
+use lc_text::PathEnd;
 
 /// The format in which the text of a table is written.
 #[derive(Debug, Clone, Copy, PartialEq, Eq)]
@@ -31,16 +32,19 @@ pub enum Output {
     Text(Format),
     /// A page of HTML, in place of rows, with bars for the 20 largest extensions, and boxes for large directories and files.
     Picture,
+    /// The paths of the listed files, or of the skipped entries if these are listed, as they are, for other programs.
+    Paths,
 }
 
 impl Output {
-    /// Returns the format of the sheet that is shown: a picture draws the sheet of a `Table`.
+    /// Returns the format of the sheet that is shown: a picture draws the sheet of a `Table`, and paths are those of the sheet of a `Csv`.
     pub fn sheet_format(self) -> Format
         ensures { result ≡ sheet_format self }
     {
         match self {
             Output::Text(format) => format,
             Output::Picture => Format::Table,
+            Output::Paths => Format::Csv,
         }
     }
 }
@@ -170,4 +174,6 @@ pub struct ReportOptions<'c> {
     pub attributes: &'c [AttributeColumn],
     /// The counted directories, or the summed reports, as the command line names them. A page of HTML shows them at its top.
     pub counted: &'c [u8],
+    /// What ends each path of the output `Paths`.
+    pub end: PathEnd,
 }

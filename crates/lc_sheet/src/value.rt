@@ -32,6 +32,8 @@ pub enum Value<'a> {
     Bar { part: u128, whole: u128 },
     /// A number in the old report and in the new one. Its change from the old number to the new one is printed, such as `+1,310`.
     Difference { old: u128, new: u128 },
+    /// A number in the old report and in the new one. Its change in per cent of the old number is printed, such as `+7.1%`.
+    Growth { old: u128, new: u128 },
 }
 
 /// Returns the word for whether an attribute is set, in texts other than JSON.
