@@ -4,7 +4,7 @@ use Rattle.std.proofs.{Common.{Some, None, nat_eq, length, append_assoc, bytes_e
 use Rattle.std.proofs.Math.Dec.{eqb-suc-zero}
 use Rattle.std.specs.{Borrow.Bor, List.{filter, filter_map, cons_option, list_any}, Option.is_some, Ordering.is_lt, Prelude.option_map}
 use Rattle.lc_glob.specs.{Bytes.slash, Path.path_in}
-use Rattle.lc_level.specs.{Answers.{Item, entry_of, entries_of}, Narrowing.{after, rest_from, put_among, each_once, leads_to, rests}}
+use Rattle.lc_level.specs.{Answers.{Item, entry_of, entries_of}, Narrowing.{after, rest_from, paths_in, put_among, each_once, leads_to, rests}}
 use Rattle.lc_level.specs.{Narrowing.{takes_part, part_of, absent_from}, PathSteps.{is_led_to, unled}}
 use Rattle.lc_level.proofs.WellFormed.{same_bytes}
 use Rattle.lc_tree.specs.{ByteOrder.bytes_cmp, Listing.EntryModel}
@@ -139,11 +139,12 @@ any_once q [] = refl
 any_once q (p ∷ ps) = any_put q p (each_once ps) ∙ ap (λ t. q p || t) (any_once q ps)
 
 -- an entry leads to one of the paths, each once, where it leads to one of them
-pub leads_once : (only : List (List ℕ)) (d : List ℕ) (e : EntryModel)
-    → list_any (leads_to e) (rests only d) ≡ list_any (leads_to e) (filter_map (rest_from d) only)
+pub leads_once : (only : Option (List (List ℕ))) (d : List ℕ) (e : EntryModel)
+    → list_any (leads_to e) (rests only d) ≡ list_any (leads_to e) (filter_map (rest_from d) (paths_in only))
 leads_once only d e =
-    any_seen (leads_to e) (rest_from d) (each_once only) ∙ any_once (λ path. passes (leads_to e) (rest_from d path)) only
-    ∙ sym (any_seen (leads_to e) (rest_from d) only)
+    any_seen (leads_to e) (rest_from d) (each_once (paths_in only))
+    ∙ any_once (λ path. passes (leads_to e) (rest_from d path)) (paths_in only)
+    ∙ sym (any_seen (leads_to e) (rest_from d) (paths_in only))
 
 -- ---- entries that take part
 
@@ -170,9 +171,9 @@ entries_of_part p (item ∷ items) = at (p (entry_of item)) (entries_of_part p i
     at true rest = ap (λ l. entry_of item ∷ l) rest
     at false rest = rest
 
--- where no path is asked for all items take part
-pub all_take_part : (d : List ℕ) (items : List Item) → part_of [] d items ≡ items
-all_take_part d items = filter_all (λ item. takes_part [] d (entry_of item)) (λ item. refl) items
+-- where no paths are given all items take part
+pub all_take_part : (d : List ℕ) (items : List Item) → part_of None d items ≡ items
+all_take_part d items = filter_all (λ item. takes_part None d (entry_of item)) (λ item. refl) items
 
 -- ---- paths that no entry leads to
 
@@ -182,5 +183,5 @@ led_by_items [] rest = refl
 led_by_items (item ∷ items) rest = ap (λ b. leads_to (entry_of item) rest || b) (led_by_items items rest)
 
 -- what is absent of the items of a directory is told by its entries
-pub absent_is : (only : List (List ℕ)) (d : List ℕ) (items : List Item) → unled (entries_of items) (rests only d) ≡ absent_from only d items
+pub absent_is : (only : Option (List (List ℕ))) (d : List ℕ) (items : List Item) → unled (entries_of items) (rests only d) ≡ absent_from only d items
 absent_is only d items = filter_as _ _ (λ rest. ap not (sym (led_by_items items rest))) (rests only d)

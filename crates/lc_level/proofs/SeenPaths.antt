@@ -1,8 +1,7 @@
 -- Sorted paths seen from a directory: those that come before its own are skipped, and what follows these is none of them.
-use Rattle.std.proofs.Common.{◌≡◌, ℕ, zero, suc, Bool, true, false, List, [], ◌∷◌, length, map, drop, refl, sym, ◌∙◌, ap, subst, None}
-use Rattle.std.proofs.{Common.{Bor, arith, nat_eq}, lemmas.{Bool.eqb-true, Map.Keys.sorted_head}}
-use Rattle.std.specs.List.{filter_map, cons_option, AllByRecursion, Sorted.{IsPartitionPoint, IsStrictlySortedBy}}
-use Rattle.lc_glob.specs.Lists.{is_empty}
+use Rattle.std.proofs.Common.{◌≡◌, ℕ, zero, suc, Bool, true, false, List, [], ◌∷◌, length, map, drop, refl, sym, ◌∙◌, ap, subst, Option, Some, None, option_map}
+use Rattle.std.proofs.{Common.{Bor, arith}, lemmas.Map.Keys.sorted_head}
+use Rattle.std.specs.{List.{filter_map, cons_option, AllByRecursion, Sorted.{IsPartitionPoint, IsStrictlySortedBy}}, Option.{is_none, is_some}}
 use Rattle.lc_level.specs.{Narrowing.rest_from, PathSteps.comes_before}
 use Rattle.lc_level.proofs.PathOrder.{early_rest, none_seen}
 use Rattle.lc_tree.specs.ByteOrder.{bytes_cmp, AreInOrder}
@@ -71,11 +70,11 @@ module _ (d : List ℕ) where
         (subst (λ ps. AllByRecursion (λ p. comes_before d p ≡ false) (lent ps)) left
         (each_skipped (λ p. comes_before d p ≡ false) i paths past)).0 none
 
--- no lent path is none
-pub none_lent : (paths : List (Bor (List ℕ))) → is_empty (lent paths) ≡ nat_eq (length paths) 0
-none_lent [] = refl
-none_lent (path ∷ paths) = at (nat_eq (length (path ∷ paths)) 0) refl
-  where
-    at : (b : Bool) → nat_eq (length (path ∷ paths)) 0 ≡ b → false ≡ b
-    at true none = absurd (omega (arith, eqb-true (length (path ∷ paths)) 0 none))
-    at false some = refl
+-- the lent paths that are given
+abbrev pub lent_option : Option (Bor (List (Bor (List ℕ)))) → Option (List (List ℕ))
+lent_option asked = option_map (λ paths. lent paths.now) asked
+
+-- some are lent where some are given
+pub some_lent : (asked : Option (Bor (List (Bor (List ℕ))))) → true ≡ is_some asked → is_none (lent_option asked) ≡ false
+some_lent None is = let h : true ≡ false = is in absurd (cc h)
+some_lent (Some paths) is = refl

@@ -8,8 +8,8 @@ use Rattle.lc_rules.specs.{IgnoreRules.{RuleModel, rules_of}, Verdicts.{at_depth
 
 -- the text of an ignore file that all others override; an attribute file that all others override; the patterns that override all others,
 -- one a line; the patterns for files, one a line: if there are some, only files that they include stay; whether no ignore file of the tree
--- is read; words `ATTR` or `ATTR=VALUE`: what has the state that one of them requires is skipped; paths: if there are some, only what is at
--- or below one of them stays; and the attributes whose states each counted file has
+-- is read; words `ATTR` or `ATTR=VALUE`: what has the state that one of them requires is skipped; paths: if they are given, only what is at or
+-- below one of them stays; and the attributes whose states each counted file has
 pub record FiltersModel : Type 0 where
   pub exclude_from : Option (List ℕ)
   pub attributes_from : Option AttrFileModel
@@ -17,7 +17,7 @@ pub record FiltersModel : Type 0 where
   pub include : Option (List ℕ)
   pub no_ignore : Bool
   pub without : List (List ℕ)
-  pub only : List (List ℕ)
+  pub only : Option (List (List ℕ))
   pub asked : List (List ℕ)
 
 -- the filters that skip only what a tree's own rules ignore, and ask for no attribute
@@ -29,7 +29,7 @@ no_filters = record {
   include = None;
   no_ignore = false;
   without = [];
-  only = [];
+  only = None;
   asked = [];
 }
 
@@ -46,8 +46,8 @@ leaving_out f without = record {
   asked = f.asked;
 }
 
--- these filters with these paths of `--only`
-abbrev pub narrowed : FiltersModel → List (List ℕ) → FiltersModel
+-- these filters with these paths of `--only`, if any are given
+abbrev pub narrowed : FiltersModel → Option (List (List ℕ)) → FiltersModel
 narrowed f only = record {
   exclude_from = f.exclude_from;
   attributes_from = f.attributes_from;

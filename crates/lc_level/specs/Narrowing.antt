@@ -1,6 +1,6 @@
 -- Which entries of a directory the paths of `--only` select.
 use Rattle.std.specs.{Prelude.{ℕ, ◌==◌, Bool, ◌&&◌, ◌||◌, not, cond, List, [], ◌∷◌, ◌++◌, Option, Some, None, bytes_eq}, List.filter}
-use Rattle.std.specs.{List.{filter_map, list_any}, Option.is_some, Ordering.is_lt}
+use Rattle.std.specs.{List.{filter_map, list_any}, Option.{is_none, is_some}, Ordering.is_lt}
 use Rattle.lc_glob.specs.{Bytes.slash, Lists.is_empty}
 use Rattle.lc_level.specs.Answers.{Item, entry_of}
 use Rattle.lc_tree.specs.{ByteOrder.bytes_cmp, Kinds.is_dir, Listing.EntryModel}
@@ -43,14 +43,19 @@ pub record WantedModel : Type 0 where
 abbrev pub has_part : WantedModel → EntryModel → Bool
 has_part w e = w.whole || list_any (leads_to e) w.rests
 
-module _ (only : List (List ℕ)) (directory : List ℕ) where
-  -- whether all of a directory is selected: there are no paths, or it is one of them or below one
+-- the paths that are given
+abbrev pub paths_in : Option (List (List ℕ)) → List (List ℕ)
+paths_in None = []
+paths_in (Some paths) = paths
+
+module _ (only : Option (List (List ℕ))) (directory : List ℕ) where
+  -- whether all of a directory is selected: no paths are given, or it is one of them or below one
   abbrev pub is_whole : Bool
-  is_whole = is_empty only || list_any (λ path. bytes_eq path directory || stands_below directory path) only
+  is_whole = is_none only || list_any (λ path. bytes_eq path directory || stands_below directory path) (paths_in only)
 
   -- the paths that are below the directory, relative to it
   abbrev pub rests : List (List ℕ)
-  rests = filter_map (rest_from directory) (each_once only)
+  rests = filter_map (rest_from directory) (each_once (paths_in only))
 
   abbrev pub wanted_in : WantedModel
   wanted_in = record { whole = is_whole; rests = rests }

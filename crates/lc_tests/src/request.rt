@@ -22,13 +22,14 @@ pub struct Asked<'a> {
     no_ignore: bool,
     without: Vec<&'a [u8]>,
     only: Vec<&'a [u8]>,
+    no_path: bool,
     asked: Vec<&'a [u8]>,
 }
 
 impl<'a> Asked<'a> {
     /// Reads a request from words. A word is an option of `lc count`, with `=` before its value, or a path of `--only`; `--asks=ATTR` asks
-    /// for an attribute. The value of `--exclude-from` or `--attributes-from` is the contents of the file, written as in a sketch (see
-    /// `tree`). If there is no `--max-dirs`, a walk may visit 100 directories.
+    /// for an attribute, and `--no-path` for no path, as an empty list does. The value of `--exclude-from` or `--attributes-from` is the
+    /// contents of the file, written as in a sketch (see `tree`). If there is no `--max-dirs`, a walk may visit 100 directories.
     pub fn read(alloc: Global, words: &'a str) -> Result<Asked<'a>, AllocError> {
         let mut asked = Asked {
             files: false,
@@ -42,6 +43,7 @@ impl<'a> Asked<'a> {
             no_ignore: false,
             without: Vec::new(alloc),
             only: Vec::new(alloc),
+            no_path: false,
             asked: Vec::new(alloc),
         };
         for word in words.split_ascii_whitespace() {
@@ -74,6 +76,8 @@ impl<'a> Asked<'a> {
             push_line(&mut self.include, value)?;
         } else if option == "--no-ignore" {
             self.no_ignore = true;
+        } else if option == "--no-path" {
+            self.no_path = true;
         } else {
             self.is_known = false;
         }
@@ -97,7 +101,11 @@ impl<'a> Asked<'a> {
             include: some_rules(alloc, &self.include)?,
             no_ignore: self.no_ignore,
             without: copies(alloc, &self.without)?,
-            only: OnlyPaths::new(alloc, &self.only)?,
+            only: if self.only.is_empty() && !self.no_path {
+                OnlyPaths::none(alloc)
+            } else {
+                OnlyPaths::new(alloc, &self.only)?
+            },
             asked: copies(alloc, &self.asked)?,
         })
     }

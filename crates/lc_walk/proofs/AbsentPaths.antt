@@ -8,7 +8,7 @@ use Rattle.lc_board.proofs.Weights.{each-map}
 use Rattle.lc_glob.specs.{Bytes.slash, Path.{path_in, segments_of}}
 use Rattle.lc_glob.proofs.Naming.{segments_apart, some_segment}
 use Rattle.lc_level.specs.{Answers.{Item, entry_of}, Narrowing.{after, stands_below, rest_from, put_among, each_once, rests, leads_to}}
-use Rattle.lc_level.specs.Narrowing.{absent_from}
+use Rattle.lc_level.specs.Narrowing.{absent_from, paths_in}
 use Rattle.lc_level.proofs.{AskedPaths.rest_is, EachOnce.once_in_order, PathOrder.not_itself, WellFormed.{bytes_other, clash}}
 use Rattle.lc_level.proofs.PathNames.{one_name}
 use Rattle.lc_tree.specs.{ByteOrder.{bytes_cmp, AreInOrder}, Paths.names_of_path}
@@ -167,25 +167,28 @@ once_in path (p ∷ ps) i = elim (put_in path p (each_once ps) i) [ inl e ↦ in
 -- ---- what is absent of a directory
 
 -- none of some items leads to a path
-abbrev pub NoneLeads : List (List ℕ) → List ℕ → List Item → List ℕ → Type 0
+abbrev pub NoneLeads : Option (List (List ℕ)) → List ℕ → List Item → List ℕ → Type 0
 NoneLeads only d items rest = AllByRecursion (λ item. leads_to (entry_of item) rest ≡ false) items
 
-module _ (only : List (List ℕ)) (d : List ℕ) (items : List Item) where
+module _ (only : Option (List (List ℕ))) (d : List ℕ) (items : List Item) where
+  abbrev asked : List (List ℕ)
+  asked = each_once (paths_in only)
+
   -- no path is absent twice
   pub absent_distinct : Distinct (absent_from only d items)
   absent_distinct =
-      distinct_filter _ (rests only d) (rests_distinct d (each_once only) (rising_distinct (each_once only) (once_in_order only)))
+      distinct_filter _ (rests only d) (rests_distinct d asked (rising_distinct asked (once_in_order (paths_in only))))
 
   -- each is asked for
-  pub absent_asked : AllByRecursion (λ rest. In (path_in d rest) only × (d ≡ [] → rest ≢ [])) (absent_from only d items)
+  pub absent_asked : AllByRecursion (λ rest. In (path_in d rest) (paths_in only) × (d ≡ [] → rest ≢ [])) (absent_from only d items)
   absent_asked =
       each_filter _ _ (rests only d)
-      (each-map (IsRestOf d (each_once only)) (λ rest. In (path_in d rest) only × (d ≡ [] → rest ≢ []))
+      (each-map (IsRestOf d asked) (λ rest. In (path_in d rest) (paths_in only) × (d ≡ [] → rest ≢ []))
       (λ rest h. (
-        subst (λ p. In p only) (rest_is d h.0 rest h.2) (once_in h.0 only h.1),
+        subst (λ p. In p (paths_in only)) (rest_is d h.0 rest h.2) (once_in h.0 (paths_in only) h.1),
         rest_some d h.0 rest h.2,
       ))
-      (rests only d) (rests_of d (each_once only)))
+      (rests only d) (rests_of d asked))
 
   none_leads : (rest : List ℕ) (es : List Item) → list_any (λ item. leads_to (entry_of item) rest) es ≡ false
       → NoneLeads only d es rest

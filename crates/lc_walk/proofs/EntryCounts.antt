@@ -5,7 +5,7 @@ use Rattle.std.proofs.lemmas.List.Sums.{sum_by-append, sum_by-cons}
 use Rattle.std.specs.List.{flat_map, Contains, AllByRecursion}
 use Rattle.lc_glob.specs.Path.{path_in}
 use Rattle.lc_level.specs.{Answers.{Item, Answers, Tree}, Job.JobModel, Level.{Fate, counted, failed, walked, skipped, Level}}
-use Rattle.lc_level.specs.{Level.{faulted_level, listed_level, level, walked_in, fates_of}, Narrowing.{part_of, absent_from}}
+use Rattle.lc_level.specs.{Level.{faulted_level, listed_level, level, walked_in, fates_of}, Narrowing.{part_of, absent_from, paths_in}}
 use Rattle.lc_level.specs.{RuleFiles.extended, FaultLines.FaultLineModel, Filters.FiltersModel}
 use Rattle.lc_level.specs.declared.fault_word.FaultWord.TheVariants.{Absent}
 use Rattle.lc_tree.specs.Trees.{Listings, Contents}
@@ -96,15 +96,15 @@ module _ (filters : FiltersModel) where
       (walk_splits (children_at filters) (found_at filters) (λ k a. map absent_fault (absent_at k a)) own_at
       (λ k a. both_found k (level filters k a)) depth j t)
 
-  absent_here : (j : JobModel) (a : Answers) → AllByRecursion (Contains filters.only) (absent_at j a)
+  absent_here : (j : JobModel) (a : Answers) → AllByRecursion (Contains (paths_in filters.only)) (absent_at j a)
   absent_here j a =
-      level_keeps (λ l. AllByRecursion (Contains filters.only) (absent_of j l)) filters j a (λ p w. tt)
+      level_keeps (λ l. AllByRecursion (Contains (paths_in filters.only)) (absent_of j l)) filters j a (λ p w. tt)
       (λ es e b. asked_paths (absent_from filters.only j.path es) (absent_asked filters.only j.path es))
     where
-      asked_paths : (rests : List (List ℕ)) → AllByRecursion (λ r. In (path_in j.path r) filters.only × (j.path ≡ [] → r ≢ [])) rests
-          → AllByRecursion (Contains filters.only) (map (path_in j.path) rests)
+      asked_paths : (rests : List (List ℕ)) → AllByRecursion (λ r. In (path_in j.path r) (paths_in filters.only) × (j.path ≡ [] → r ≢ [])) rests
+          → AllByRecursion (Contains (paths_in filters.only)) (map (path_in j.path) rests)
       asked_paths [] all = tt
-      asked_paths (r ∷ rs) all = (contains (path_in j.path r) filters.only all.0.0, asked_paths rs all.1)
+      asked_paths (r ∷ rs) all = (contains (path_in j.path r) (paths_in filters.only) all.0.0, asked_paths rs all.1)
 
   abbrev Walks : Type 0
   Walks = JobModel → Tree → List Found
@@ -289,14 +289,14 @@ tells lists ps xs r asked is =
 -- a report of walks to two depths accounts for all entries
 accounted : (lists : ReportLists) (filters : FiltersModel) (depth : ℕ) (top : JobModel) (t : Tree) (r : Report) →
     lists.left_out ≡ true → IsReportOf lists (walk_of filters depth top t) r → IsReportOf lists (walk_of filters (suc depth) top t) r →
-    AllByRecursion IsPresent (own_walk filters depth top t) → IsAccounted filters.only r
+    AllByRecursion IsPresent (own_walk filters depth top t) → IsAccounted (paths_in filters.only) r
 accounted lists filters depth top t r asked is deeper present =
     let here = tells lists (absent_walk filters depth top t) (own_walk filters depth top t) r asked
     (report_law lists _ _ r (two_walks filters depth top t) is) in
     let below = tells lists (absent_walk filters (suc depth) top t) (own_walk filters (suc depth) top t) r asked
     (report_law lists _ _ r (two_walks filters (suc depth) top t) deeper) in record {
       absent = absent_walk filters depth top t;
-      asked = walk_each (children_at filters) (absent_at filters) (Contains filters.only) (absent_here filters) depth top t;
+      asked = walk_each (children_at filters) (absent_at filters) (Contains (paths_in filters.only)) (absent_here filters) depth top t;
       others = faults_of (own_walk filters depth top t);
       present = present_lines (own_walk filters depth top t) present;
       faults = here.faults;

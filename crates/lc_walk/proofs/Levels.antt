@@ -160,7 +160,7 @@ pub well_formed_items : (a : Answers) → IsWellFormed a → (es : List Item) �
 well_formed_items a t es e = spread es (subst (λ (o : Items). IsListing (listed_in o)) e t.here)
 
 -- so have those that take part
-pub well_formed_part : (only : List (List ℕ)) (d : List ℕ) (a : Answers) → IsWellFormed a → (es : List Item) → a.here ≡ Ok es
+pub well_formed_part : (only : Option (List (List ℕ))) (d : List ℕ) (a : Answers) → IsWellFormed a → (es : List Item) → a.here ≡ Ok es
     → Spread (part_of only d es)
 well_formed_part only d a t es e = spread_part only d es (well_formed_items a t es e)
 

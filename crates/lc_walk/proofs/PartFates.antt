@@ -33,14 +33,14 @@ fits s k (directory_item n) = fits_by Dir (walked (child_job k n)) refl (reason_
 fits s k (other_item n what) = fits_by (Other what) (skipped (Other what) (other_kind what)) refl (reason_of s k n false)
 
 -- the paths that are asked for decide no fate
-pub same_fate : (s : FiltersModel) (one two : List (List ℕ)) (k : JobModel) (item : Item)
+pub same_fate : (s : FiltersModel) (one two : Option (List (List ℕ))) (k : JobModel) (item : Item)
     → fate_of (narrowed s one) k item ≡ fate_of (narrowed s two) k item
 same_fate s one two k (file_item n c rules) = refl
 same_fate s one two k (directory_item n) = refl
 same_fate s one two k (other_item n what) = refl
 
 -- nor whether a directory is at fault
-pub same_fault : (s : FiltersModel) (one two : List (List ℕ)) (j : JobModel) (a : Answers) (p : List ℕ) (w : FaultWord)
+pub same_fault : (s : FiltersModel) (one two : Option (List (List ℕ))) (j : JobModel) (a : Answers) (p : List ℕ) (w : FaultWord)
     → level (narrowed s one) j a ≡ faulted_level p w → level (narrowed s two) j a ≡ faulted_level p w
 same_fault s one two j a p w = at a.here
   where

@@ -1,5 +1,5 @@
 -- What a walk of some paths finds is the part of the whole walk at, below and above them.
-use Rattle.std.proofs.Common.{◌≡◌, ◌≢◌, ℕ, true, List, [], ◌∷◌, length, refl, sym, ◌∙◌, ap, subst, inl, inr, ◌⊎◌}
+use Rattle.std.proofs.Common.{◌≡◌, ◌≢◌, ℕ, true, List, [], ◌∷◌, length, refl, sym, ◌∙◌, ap, subst, inl, inr, ◌⊎◌, Some, None}
 use Rattle.std.specs.List.{Contains, AllByRecursion}
 use Rattle.lc_glob.specs.Path.{path_in, is_good_path}
 use Rattle.lc_level.specs.{Answers.{Item, directory_item, entry_of, Answers, Tree}, Job.JobModel, Level.{FileLineModel, SkippedLineModel}}
@@ -22,26 +22,26 @@ inside_path j inside a items l = ap (λ (k : JobModel). k.path) l.is
 
 module _ (s : FiltersModel) (only : List (List ℕ)) where
   abbrev part : FiltersModel
-  part = narrowed s only
+  part = narrowed s (Some only)
 
   abbrev whole : FiltersModel
-  whole = narrowed s []
+  whole = narrowed s None
 
   -- ---- the entries of a directory
 
-  in_whole : (d : List ℕ) (items : List Item) (item : Item) → Contains (part_of [] d items) item → In item items
-  in_whole d items item c = subst (λ l. In item l) (all_take_part d items) (is_in item (part_of [] d items) c)
+  in_whole : (d : List ℕ) (items : List Item) (item : Item) → Contains (part_of None d items) item → In item items
+  in_whole d items item c = subst (λ l. In item l) (all_take_part d items) (is_in item (part_of None d items) c)
 
-  of_whole : (d : List ℕ) (items : List Item) (item : Item) → In item items → Contains (part_of [] d items) item
-  of_whole d items item i = contains item (part_of [] d items) (subst (λ l. In item l) (sym (all_take_part d items)) i)
+  of_whole : (d : List ℕ) (items : List Item) (item : Item) → In item items → Contains (part_of None d items) item
+  of_whole d items item i = contains item (part_of None d items) (subst (λ l. In item l) (sym (all_take_part d items)) i)
 
-  in_part : (d : List ℕ) (items : List Item) (item : Item) → Contains (part_of only d items) item
-      → In item items × (takes_part only d (entry_of item) ≡ true)
-  in_part d items item c = in_filter (λ i. takes_part only d (entry_of i)) item items (is_in item (part_of only d items) c)
+  in_part : (d : List ℕ) (items : List Item) (item : Item) → Contains (part_of (Some only) d items) item
+      → In item items × (takes_part (Some only) d (entry_of item) ≡ true)
+  in_part d items item c = in_filter (λ i. takes_part (Some only) d (entry_of i)) item items (is_in item (part_of (Some only) d items) c)
 
-  in_part_of : (d : List ℕ) (items : List Item) (item : Item) → In item items → takes_part only d (entry_of item) ≡ true
-      → Contains (part_of only d items) item
-  in_part_of d items item i e = contains item (part_of only d items) (of_filter (λ x. takes_part only d (entry_of x)) item items i e)
+  in_part_of : (d : List ℕ) (items : List Item) (item : Item) → In item items → takes_part (Some only) d (entry_of item) ≡ true
+      → Contains (part_of (Some only) d items) item
+  in_part_of d items item i e = contains item (part_of (Some only) d items) (of_filter (λ x. takes_part (Some only) d (entry_of x)) item items i e)
 
   entry_good : (j : JobModel) (a : Answers) (n : List ℕ) (fate : Fate) → IsWellFormed a → HasEntry whole j a n fate → IsGoodName n
   entry_good j a n fate well_formed h =
@@ -60,7 +60,7 @@ module _ (s : FiltersModel) (only : List (List ℕ)) where
         (subst (λ m. EntryTakesPart only (entry_of h.item).kind (path_in j.path m)) (sym h.named)
         (takes (entry_of h.item).kind (subst (λ f. IsFateOf f (entry_of h.item).kind) h.fate_is (fits whole h.inside h.item)))));
     named = h.named;
-    fate_is = same_fate s only [] h.inside h.item ∙ h.fate_is;
+    fate_is = same_fate s (Some only) None h.inside h.item ∙ h.fate_is;
   }
     where
       here : In h.item h.items
@@ -111,12 +111,12 @@ module _ (s : FiltersModel) (only : List (List ℕ)) where
         leads_part place (child_job inside n) k (λ p. t (n ∷ p)) (λ p i leads. well_formed (n ∷ p) i (inside, l, leads)) more on,
       )
 
-  module _ (some : only ≢ []) (good : AllByRecursion (λ path. is_good_path path ≡ true) only) where
+  module _ (good : AllByRecursion (λ path. is_good_path path ≡ true) only) where
     whole_entry : (j : JobModel) (a : Answers) (n : List ℕ) (fate : Fate) → HasEntry part j a n fate
         → HasEntry whole j a n fate × (kind : Kind) × IsFateOf fate kind × EntryTakesPart only kind (path_in j.path n)
     whole_entry j a n fate h =
         let i = in_part j.path h.items h.item h.has in
-        let is : fate_of whole h.inside h.item ≡ fate = same_fate s [] only h.inside h.item ∙ h.fate_is in (
+        let is : fate_of whole h.inside h.item ≡ fate = same_fate s None (Some only) h.inside h.item ∙ h.fate_is in (
           record {
             items = h.items;
             inside = h.inside;
@@ -129,7 +129,7 @@ module _ (s : FiltersModel) (only : List (List ℕ)) where
           (entry_of h.item).kind,
           subst (λ f. IsFateOf f (entry_of h.item).kind) is (fits whole h.inside h.item),
           subst (λ m. EntryTakesPart only (entry_of h.item).kind (path_in j.path m)) h.named
-              (by_part only j.path (entry_of h.item) some good i.1),
+              (by_part only j.path (entry_of h.item) good i.1),
         )
 
     leads_whole : (place : List (List ℕ)) (j k : JobModel) (t : Tree) → LeadsTo part j t place k → IsOnWay only j.path
@@ -138,7 +138,7 @@ module _ (s : FiltersModel) (only : List (List ℕ)) where
     leads_whole (n ∷ place) j k t (inside, l, more) on =
         let same : inside.path ≡ j.path = inside_path j inside (t []) l.items l.listed in
         let i = in_part j.path l.items (directory_item n) l.has in
-        let takes : EntryTakesPart only Dir (path_in j.path n) = by_part only j.path (entry_of (directory_item n)) some good i.1 in
+        let takes : EntryTakesPart only Dir (path_in j.path n) = by_part only j.path (entry_of (directory_item n)) good i.1 in
         let child : IsOnWay only (path_in inside.path n) =
         subst (λ p. IsOnWay only (path_in p n)) (sym same) (takes_on_way only Dir (path_in j.path n) takes) in
         let rest = leads_whole place (child_job inside n) k (λ p. t (n ∷ p)) more child in (
@@ -224,7 +224,7 @@ module _ (s : FiltersModel) (only : List (List ℕ)) where
           let l = leads_whole r.place top r.job t r.leads (inl at_top) in
           let h = r.gives.1 in (
             (
-              length (part_of [] r.job.path h.items),
+              length (part_of None r.job.path h.items),
               in_whole_walk _ (record {
                 place = r.place;
                 shallow = r.shallow;
@@ -240,7 +240,7 @@ module _ (s : FiltersModel) (only : List (List ℕ)) where
           ListsPath (part_walk s only depth top t) path
       has_directory path entries r on =
           let h = r.gives.1 in (
-            length (part_of only r.job.path h.items),
+            length (part_of (Some only) r.job.path h.items),
             in_part_walk _ (record {
               place = r.place;
               shallow = r.shallow;
@@ -258,7 +258,7 @@ module _ (s : FiltersModel) (only : List (List ℕ)) where
           (Contains (whole_walk s only depth top t) (found_fault path word) × Faults path word) ⊎ ((word ≡ Absent) × Contains only path)
       fault path word r (inl e) =
           let l = leads_whole r.place top r.job t r.leads (inl at_top) in
-          let is = same_fault s only [] r.job (t r.place) path word e in
+          let is = same_fault s (Some only) None r.job (t r.place) path word e in
           inl (
             in_whole_walk _ (record { place = r.place; shallow = r.shallow; job = r.job; leads = l.0; gives = inl is }),
             inr (record { place = r.place; shallow = r.shallow; job = r.job; leads = l.0; on_way = l.1; fault = is }),
@@ -275,7 +275,7 @@ module _ (s : FiltersModel) (only : List (List ℕ)) where
           inr (
             is,
             contains path only
-                (subst (λ p. In p only) (sym e) (asked _ (absent_asked only r.job.path h.items) (is_in rest _ h.absent))),
+                (subst (λ p. In p only) (sym e) (asked _ (absent_asked (Some only) r.job.path h.items) (is_in rest _ h.absent))),
           )
         where
           asked : (rs : List (List ℕ)) → AllByRecursion (λ x. In (path_in r.job.path x) only × (r.job.path ≡ [] → x ≢ [])) rs
@@ -292,7 +292,7 @@ module _ (s : FiltersModel) (only : List (List ℕ)) where
             shallow = f.shallow;
             job = f.job;
             leads = leads_part f.place top f.job t well_formed f.leads f.on_way;
-            gives = inl (same_fault s [] only f.job (t f.place) path word f.fault);
+            gives = inl (same_fault s None (Some only) f.job (t f.place) path word f.fault);
           })
 
       place_on_way : (d path : List ℕ) → IsOwnPlace d path → IsWithin only path → IsOnWay only d
@@ -330,35 +330,35 @@ module _ (s : FiltersModel) (only : List (List ℕ)) where
       has_fault path word r (inr (inr (rest, e, is, h))) (inl within) = absurd (is_in rest [] h.absent)
 
 -- so a walk of some paths finds of the whole
-of_one_tree : (s : FiltersModel) (only : List (List ℕ)) → only ≢ [] → AllByRecursion (λ path. is_good_path path ≡ true) only →
-    (depth : ℕ) (top : JobModel) (t : Tree) → top.path ≡ [] → HasListings (narrowed s []) top t →
+of_one_tree : (s : FiltersModel) (only : List (List ℕ)) → AllByRecursion (λ path. is_good_path path ≡ true) only →
+    (depth : ℕ) (top : JobModel) (t : Tree) → top.path ≡ [] → HasListings (narrowed s None) top t →
     IsPartOfWalk s only depth top t (part_walk s only depth top t)
-of_one_tree s only some good depth top t at_top well_formed =
+of_one_tree s only good depth top t at_top well_formed =
     record {
-      file = λ d f c. file s only some good depth top t at_top well_formed d f ((found_law (narrowed s only) depth top t _).0 c);
-      has_file = λ d f c. has_file s only some good depth top t at_top well_formed d f ((found_law (narrowed s []) depth top t _).0 c);
-      skipped = λ d l c. left_out s only some good depth top t at_top well_formed d l ((found_law (narrowed s only) depth top t _).0 c);
-      has_skipped = λ d l c. has_left_out s only some good depth top t at_top well_formed d l
-          ((found_law (narrowed s []) depth top t _).0 c);
-      directory = λ p c. directory s only some good depth top t at_top well_formed p c.0
-          ((found_law (narrowed s only) depth top t _).0 c.1);
-      has_directory = λ p c. has_directory s only some good depth top t at_top well_formed p c.0
-          ((found_law (narrowed s []) depth top t _).0 c.1);
+      file = λ d f c. file s only good depth top t at_top well_formed d f ((found_law (narrowed s (Some only)) depth top t _).0 c);
+      has_file = λ d f c. has_file s only good depth top t at_top well_formed d f ((found_law (narrowed s None) depth top t _).0 c);
+      skipped = λ d l c. left_out s only good depth top t at_top well_formed d l ((found_law (narrowed s (Some only)) depth top t _).0 c);
+      has_skipped = λ d l c. has_left_out s only good depth top t at_top well_formed d l
+          ((found_law (narrowed s None) depth top t _).0 c);
+      directory = λ p c. directory s only good depth top t at_top well_formed p c.0
+          ((found_law (narrowed s (Some only)) depth top t _).0 c.1);
+      has_directory = λ p c. has_directory s only good depth top t at_top well_formed p c.0
+          ((found_law (narrowed s None) depth top t _).0 c.1);
       fault = λ p w c.
-          let r = (found_law (narrowed s only) depth top t (found_fault p w)).0 c in
-          fault s only some good depth top t at_top well_formed p w r r.gives;
+          let r = (found_law (narrowed s (Some only)) depth top t (found_fault p w)).0 c in
+          fault s only good depth top t at_top well_formed p w r r.gives;
       has_fault = λ p w c.
-          let r = (found_law (narrowed s []) depth top t (found_fault p w)).0 c in
-          has_fault s only some good depth top t at_top well_formed p w r r.gives;
+          let r = (found_law (narrowed s None) depth top t (found_fault p w)).0 c in
+          has_fault s only good depth top t at_top well_formed p w r r.gives;
     }
 
 -- where each tree has listings
 pub part_law : PartOfWalkLaw
-part_law s only some good depth top t at_top well_formed =
-    of_one_tree s only some good depth top t at_top (λ place k leads. well_formed place)
+part_law s only good depth top t at_top well_formed =
+    of_one_tree s only good depth top t at_top (λ place k leads. well_formed place)
 
 -- and of two walks whose directories answer alike
 pub two_walks_law : TwoWalksLaw
-two_walks_law s only some good depth top t u at_top well_formed alike =
+two_walks_law s only good depth top t u at_top well_formed alike =
     subst (IsPartOfWalk s only depth top t) (sym (same_walk s only depth top t u alike))
-    (of_one_tree s only some good depth top t at_top well_formed)
+    (of_one_tree s only good depth top t at_top well_formed)

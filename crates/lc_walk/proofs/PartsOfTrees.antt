@@ -1,8 +1,8 @@
 -- Which entries and directories take part, by their paths.
 use Rattle.std.proofs.Common.{◌≡◌, ◌≢◌, ℕ, Bool, true, false, ◌&&◌, ◌||◌, List, [], ◌∷◌, ◌++◌, refl, sym, ◌∙◌, ap, inl, inr, ◌⊎◌, Option}
 use Rattle.std.proofs.{Common.{Some, None, append_assoc, bytes_eq}, lemmas.Bool.{and_from, and_parts, or_cases, or_left, or_right}}
-use Rattle.std.specs.{List.{Contains, list_any, AllByRecursion}, Option.is_some}
-use Rattle.lc_glob.specs.{Lists.is_empty, Path.{path_in, is_good_path}}
+use Rattle.std.specs.{List.{Contains, list_any, AllByRecursion}, Option.{is_none, is_some}}
+use Rattle.lc_glob.specs.Path.{path_in, is_good_path}
 use Rattle.lc_level.specs.Narrowing.{after, stands_below, rest_from, is_whole, leads_to, rests, takes_part}
 use Rattle.lc_level.proofs.{AskedPaths.{after_is, after_front, rest_is, passes, any_seen, leads_once}, WellFormed.{IsGoodName, bytes_same}}
 use Rattle.lc_level.proofs.WellFormed.{same_bytes}
@@ -49,33 +49,24 @@ more_some : (n rest : List ℕ) → n ++ 47 ∷ rest ≢ []
 more_some [] rest e = absurd (cc e)
 more_some (b ∷ bs) rest e = absurd (cc e)
 
-not_empty : (paths : List (List ℕ)) → paths ≢ [] → is_empty paths ≡ true → ⊥
-not_empty [] some e = some refl
-not_empty (p ∷ ps) some e = let h : false ≡ true = e in absurd (cc h)
-
 -- ---- entries
 
 module _ (only : List (List ℕ)) (d : List ℕ) (e : EntryModel) where
-  leads_seen : list_any (leads_to e) (rests only d) ≡ list_any (λ path. passes (leads_to e) (rest_from d path)) only
-  leads_seen = leads_once only d e ∙ any_seen (leads_to e) (rest_from d) only
+  leads_seen : list_any (leads_to e) (rests (Some only) d) ≡ list_any (λ path. passes (leads_to e) (rest_from d path)) only
+  leads_seen = leads_once (Some only) d e ∙ any_seen (leads_to e) (rest_from d) only
 
-  by_whole : only ≢ [] → AllByRecursion (λ path. is_good_path path ≡ true) only → is_whole only d ≡ true
+  by_whole : AllByRecursion (λ path. is_good_path path ≡ true) only → is_whole (Some only) d ≡ true
       → IsWithin only (path_in d e.name)
-  by_whole some good whole = at (or_cases (is_empty only) _ whole)
+  by_whole good whole =
+      let q = any_in (λ path. bytes_eq path d || stands_below d path) only whole in
+      let within : IsWithin only d = below q.0 q.1 (or_cases (bytes_eq q.0 d) (stands_below d q.0) q.2) in
+      child_within only d e.name (within_some only good d within) within
     where
       below : (q : List ℕ) → In q only → (bytes_eq q d ≡ true) ⊎ (stands_below d q ≡ true) → IsWithin only d
       below q i (inl same) = (q, contains q only i, inl (sym (same_bytes q d same)))
       below q i (inr deep) = (q, contains q only i, inr (stands_is d q deep))
 
-      at : (is_empty only ≡ true) ⊎ (list_any (λ path. bytes_eq path d || stands_below d path) only ≡ true)
-          → IsWithin only (path_in d e.name)
-      at (inl none) = absurd (not_empty only some none)
-      at (inr some_path) =
-          let q = any_in (λ path. bytes_eq path d || stands_below d path) only some_path in
-          let within : IsWithin only d = below q.0 q.1 (or_cases (bytes_eq q.0 d) (stands_below d q.0) q.2) in
-          child_within only d e.name (within_some only good d within) within
-
-  by_rest : list_any (leads_to e) (rests only d) ≡ true → EntryTakesPart only e.kind (path_in d e.name)
+  by_rest : list_any (leads_to e) (rests (Some only) d) ≡ true → EntryTakesPart only e.kind (path_in d e.name)
   by_rest leads =
       let q = any_in (λ path. passes (leads_to e) (rest_from d path)) only (sym leads_seen ∙ leads) in
       from q.0 q.1 (rest_from d q.0) refl q.2
@@ -96,32 +87,32 @@ module _ (only : List (List ℕ)) (d : List ℕ) (e : EntryModel) where
       from q i (Some rest) is h = to q rest i (rest_is d q rest is) (or_cases (bytes_eq e.name rest) _ h)
 
   -- an entry that takes part is within, or a directory above
-  pub by_part : only ≢ [] → AllByRecursion (λ path. is_good_path path ≡ true) only → takes_part only d e ≡ true
+  pub by_part : AllByRecursion (λ path. is_good_path path ≡ true) only → takes_part (Some only) d e ≡ true
       → EntryTakesPart only e.kind (path_in d e.name)
-  by_part some good takes = at (or_cases (is_whole only d) _ takes)
+  by_part good takes = at (or_cases (is_whole (Some only) d) _ takes)
     where
-      at : (is_whole only d ≡ true) ⊎ (list_any (leads_to e) (rests only d) ≡ true) → EntryTakesPart only e.kind (path_in d e.name)
-      at (inl whole) = inl (by_whole some good whole)
+      at : (is_whole (Some only) d ≡ true) ⊎ (list_any (leads_to e) (rests (Some only) d) ≡ true) → EntryTakesPart only e.kind (path_in d e.name)
+      at (inl whole) = inl (by_whole good whole)
       at (inr leads) = by_rest leads
 
-  led : (q rest : List ℕ) → Contains only q → rest_from d q ≡ Some rest → leads_to e rest ≡ true → takes_part only d e ≡ true
+  led : (q rest : List ℕ) → Contains only q → rest_from d q ≡ Some rest → leads_to e rest ≡ true → takes_part (Some only) d e ≡ true
   led q rest has is leads =
-      or_right (is_whole only d) _
+      or_right (is_whole (Some only) d) _
       (leads_seen ∙ of_any (λ path. passes (leads_to e) (rest_from d path)) only q (is_in q only has)
       (ap (passes (leads_to e)) is ∙ leads))
 
   -- and each such entry takes part
-  pub of_part : IsGoodName e.name → EntryTakesPart only e.kind (path_in d e.name) → takes_part only d e ≡ true
+  pub of_part : IsGoodName e.name → EntryTakesPart only e.kind (path_in d e.name) → takes_part (Some only) d e ≡ true
   of_part good (inl within) = at (within_child only d e.name good within)
     where
       stands : (q : List ℕ) → (d ≡ q) ⊎ IsBelow d q → (bytes_eq q d || stands_below d q) ≡ true
       stands q (inl same) = or_left (bytes_eq q d) (stands_below d q) (bytes_same q d (sym same))
       stands q (inr below) = or_right (bytes_eq q d) (stands_below d q) (is_stands d q below)
 
-      at : IsWithin only d ⊎ Contains only (path_in d e.name) → takes_part only d e ≡ true
+      at : IsWithin only d ⊎ Contains only (path_in d e.name) → takes_part (Some only) d e ≡ true
       at (inl (q, has, above)) =
-          or_left (is_whole only d) _
-          (or_right (is_empty only) _
+          or_left (is_whole (Some only) d) _
+          (or_right (is_none (Some only)) _
           (of_any (λ path. bytes_eq path d || stands_below d path) only q (is_in q only has) (stands q above)))
       at (inr has) =
           led (path_in d e.name) e.name has (rest_of_in d e.name (λ top. good.0))

@@ -1,5 +1,5 @@
 -- A walk of some paths finds the same by any answers that give the same levels.
-use Rattle.std.proofs.Common.{◌≡◌, ℕ, zero, suc, List, [], ◌∷◌, ◌++◌, refl, sym, ◌∙◌, ap, subst, inl, inr}
+use Rattle.std.proofs.Common.{◌≡◌, ℕ, zero, suc, List, [], ◌∷◌, ◌++◌, refl, sym, ◌∙◌, ap, subst, inl, inr, Some, None}
 use Rattle.lc_level.specs.{Answers.{Item, directory_item, Answers, Tree}, Job.JobModel, Level.level, Narrowing.part_of}
 use Rattle.lc_level.specs.Filters.{FiltersModel, narrowed}
 use Rattle.lc_level.proofs.AskedPaths.{all_take_part}
@@ -9,19 +9,19 @@ use Rattle.lc_walk.proofs.{Elements.{In, is_in, contains}, FoundByPlace.child_by
 
 module _ (s : FiltersModel) (only : List (List ℕ)) where
   abbrev part : FiltersModel
-  part = narrowed s only
+  part = narrowed s (Some only)
 
   abbrev whole : FiltersModel
-  whole = narrowed s []
+  whole = narrowed s None
 
   -- a directory that a walk of some paths goes into the walk of the whole tree goes into
   into_whole : (j : JobModel) (a : Answers) (n : List ℕ) (inside : JobModel) → WalksInto part j a n inside → WalksInto whole j a n inside
   into_whole j a n inside l = record {
     items = l.items;
     listed = l.listed;
-    has = contains (directory_item n) (part_of [] j.path l.items)
+    has = contains (directory_item n) (part_of None j.path l.items)
         (subst (λ (xs : List Item). In (directory_item n) xs) (sym (all_take_part j.path l.items))
-        (in_filter _ (directory_item n) l.items (is_in (directory_item n) (part_of only j.path l.items) l.has)).0);
+        (in_filter _ (directory_item n) l.items (is_in (directory_item n) (part_of (Some only) j.path l.items) l.has)).0);
     taken = l.taken;
   }
 

@@ -1,5 +1,5 @@
 -- The items of a directory that take part in a walk.
-use Rattle.std.proofs.Common.{◌≡◌, ℕ, Bool, true, false, cond, List, [], ◌∷◌, refl, sym, ◌∙◌, ap, subst, bytes_eq, inl, inr}
+use Rattle.std.proofs.Common.{◌≡◌, ℕ, Bool, true, false, cond, List, [], ◌∷◌, refl, sym, ◌∙◌, ap, subst, bytes_eq, inl, inr, Option}
 use Rattle.std.specs.List.{filter, AllByRecursion}
 use Rattle.lc_level.specs.{Answers.{Item, name_of}, Narrowing.part_of}
 use Rattle.lc_level.proofs.WellFormed.{Spread}
@@ -55,5 +55,5 @@ spread_filter p (e ∷ es) s = at (p e) (spread_filter p es s.2)
     at false rest = rest
 
 -- where the names of items are good and no two the same, so are those of the items that take part
-pub spread_part : (only : List (List ℕ)) (d : List ℕ) (es : List Item) → Spread es → Spread (part_of only d es)
+pub spread_part : (only : Option (List (List ℕ))) (d : List ℕ) (es : List Item) → Spread es → Spread (part_of only d es)
 spread_part only d es s = spread_filter _ es s

@@ -3,7 +3,7 @@ use Rattle.std.specs.{Prelude.{◌≡◌, ◌≢◌, ℕ, ◌+◌, true, false, 
 use Rattle.std.specs.List.Sorted.{IsPermutation}
 use Rattle.lc_glob.specs.Path.{path_in}
 use Rattle.lc_level.specs.{Answers.{Item, entry_of, name_of, Tree}, FaultLines.FaultLineModel, Job.JobModel, Level.SkippedLineModel}
-use Rattle.lc_level.specs.{Level.by_rule, Filters.FiltersModel, declared.fault_word.FaultWord.TheVariants.Absent}
+use Rattle.lc_level.specs.{Level.by_rule, Filters.FiltersModel, Narrowing.paths_in, declared.fault_word.FaultWord.TheVariants.Absent}
 use Rattle.lc_rules.specs.{IgnoreChains.rules_in, IgnoreLaws.IsLastMatch, IgnoreRules.RuleModel, declared.rule_source.RuleSource.RuleSource}
 use Rattle.lc_tree.specs.{Kinds.is_dir, Trees.{Listings, Contents}}
 use Rattle.lc_walk.specs.{FoundAt.{IsListed, LeadsTo}, RecursiveWalk.walk_of, WalkOptions.asked_by, FoundReports.IsReportOf, Walks.Walks}
@@ -27,7 +27,7 @@ pub record IsAccounted (only : List (List ℕ)) (r : Report) : Type 0 where
 -- the report of each walk that lists its skipped entries accounts for all entries
 abbrev pub EntriesLaw : (List ℕ → Listings) → (List ℕ → Contents) → Type 0
 EntriesLaw lists gives =
-    (o : Options) (r : Report) → Walks lists gives o (Ok r) → o.lists.left_out ≡ true → IsAccounted (asked_by o).filters.only r
+    (o : Options) (r : Report) → Walks lists gives o (Ok r) → o.lists.left_out ≡ true → IsAccounted (paths_in (asked_by o).filters.only) r
 
 -- the entry at this path is in a directory that the walk reaches. Of the rules that apply there, the last that matches the entry ignores
 -- it. This rule is on this line of the file of this source

@@ -1,5 +1,5 @@
 -- What a walk of some paths finds, by what the walk of the whole tree finds.
-use Rattle.std.specs.{Prelude.{◌≡◌, ◌≢◌, ◌⊎◌, ℕ, ◌<◌, true, List, [], ◌∷◌, ◌++◌, length}, List.{Contains, AllByRecursion}}
+use Rattle.std.specs.{Prelude.{◌≡◌, ◌⊎◌, ℕ, ◌<◌, true, List, [], ◌∷◌, ◌++◌, length, Some, None}, List.{Contains, AllByRecursion}}
 use Rattle.lc_glob.specs.{Bytes.slash, Path.{path_in, is_good_path}}
 use Rattle.lc_level.specs.{Answers.Tree, Job.JobModel, Level.{FileLineModel, SkippedLineModel, faulted_level, level}, Filters.FiltersModel}
 use Rattle.lc_level.specs.{Filters.narrowed, WellFormed.IsWellFormed, declared.fault_word.FaultWord.{FaultWord, TheVariants.Absent}}
@@ -35,19 +35,19 @@ ListsPath xs path = (entries : ℕ) × Contains xs (found_directory path entries
 module _ (filters : FiltersModel) (only : List (List ℕ)) (depth : ℕ) (top : JobModel) (t : Tree) where
   -- what the walk of the whole tree finds, and what the walk of only these paths finds
   abbrev pub whole_walk : List Found
-  whole_walk = walk_of (narrowed filters []) depth top t
+  whole_walk = walk_of (narrowed filters None) depth top t
 
   abbrev pub part_walk : List Found
-  part_walk = walk_of (narrowed filters only) depth top t
+  part_walk = walk_of (narrowed filters (Some only)) depth top t
 
   -- this error is about a directory on the way to the requested paths, or about one of its rule files
   pub record IsFaultOnWay (path : List ℕ) (word : FaultWord) : Type 0 where
     pub place : List (List ℕ)
     pub shallow : length place < depth
     pub job : JobModel
-    pub leads : LeadsTo (narrowed filters []) top t place job
+    pub leads : LeadsTo (narrowed filters None) top t place job
     pub on_way : IsOnWay only job.path
-    pub fault : level (narrowed filters []) job (t place) ≡ faulted_level path word
+    pub fault : level (narrowed filters None) job (t place) ≡ faulted_level path word
 
   -- of what the walk of the whole tree finds, the part has exactly these: the counted files at or below the requested paths, the skipped
   -- entries that the paths select, the directories on the way, and the errors at or below the paths or about directories on the way. Each
@@ -73,20 +73,20 @@ module _ (filters : FiltersModel) (only : List (List ℕ)) (depth : ℕ) (top : 
   -- one level for the walk of these paths. The answers may differ in what this walk doesn't read, such as a skipped file
   abbrev pub AnswerAlike : Tree → Type 0
   AnswerAlike u =
-      (place : List (List ℕ)) (k : JobModel) → LeadsTo (narrowed filters []) top t place k
-      → LeadsTo (narrowed filters only) top u place k
-      → level (narrowed filters only) k (u place) ≡ level (narrowed filters only) k (t place)
+      (place : List (List ℕ)) (k : JobModel) → LeadsTo (narrowed filters None) top t place k
+      → LeadsTo (narrowed filters (Some only)) top u place k
+      → level (narrowed filters (Some only)) k (u place) ≡ level (narrowed filters (Some only)) k (t place)
 
 -- the walk of some paths in `u` finds its part of what the walk of the whole tree `t` finds, if their answers are alike
 abbrev pub TwoWalksLaw : Type 0
 TwoWalksLaw =
-    (filters : FiltersModel) (only : List (List ℕ)) → only ≢ [] → AllByRecursion (λ path. is_good_path path ≡ true) only →
-    (depth : ℕ) (top : JobModel) (t u : Tree) → top.path ≡ [] → HasListings (narrowed filters []) top t →
+    (filters : FiltersModel) (only : List (List ℕ)) → AllByRecursion (λ path. is_good_path path ≡ true) only →
+    (depth : ℕ) (top : JobModel) (t u : Tree) → top.path ≡ [] → HasListings (narrowed filters None) top t →
     AnswerAlike filters only depth top t u → IsPartOfWalk filters only depth top t (part_walk filters only depth top u)
 
 -- the walk of some paths finds its part of what the walk of the whole tree finds, in each tree with well-formed listings
 abbrev pub PartOfWalkLaw : Type 0
 PartOfWalkLaw =
-    (filters : FiltersModel) (only : List (List ℕ)) → only ≢ [] → AllByRecursion (λ path. is_good_path path ≡ true) only →
+    (filters : FiltersModel) (only : List (List ℕ)) → AllByRecursion (λ path. is_good_path path ≡ true) only →
     (depth : ℕ) (top : JobModel) (t : Tree) → top.path ≡ [] → ((place : List (List ℕ)) → IsWellFormed (t place)) →
     IsPartOfWalk filters only depth top t (part_walk filters only depth top t)

@@ -1,5 +1,5 @@
 //! The paths of `--only`, sorted once, and what they select in a directory.
-ghost use Rattle.std.specs.Prelude.{◌≡◌, ◌≤◌, IfOk, [], false, true, length, map};
+ghost use Rattle.std.specs.Prelude.{◌≡◌, ◌≤◌, IfOk, None, Some, false, true, length, map};
 ghost use Rattle.std.specs.List.{filter_map, AllByRecursion};
 ghost use Rattle.std.specs.List.Sorted.{IsPartitionPoint};
 ghost use Rattle.lc_level.specs.Narrowing.{each_once, is_whole, rest_from, rests, wanted_in};
@@ -21,20 +21,21 @@ use std::marker::Model;
 /// ```
 #[derive(Drop)]
 pub struct OnlyPaths<'o> {
-    asked: &'o [&'o [u8]],
+    asked: Option<&'o [&'o [u8]]>,
     // Each path once, in the order of their bytes.
     sorted: Vec<&'o [u8]>,
 }
 
 impl<'o> Model for OnlyPaths<'o> {
-    ghost use Rattle.std.specs.Prelude.{◌≡◌, ℕ, List, map};
-    ghost use Rattle.lc_level.specs.Narrowing.{each_once};
+    ghost use Rattle.std.specs.Prelude.{◌≡◌, ℕ, List, Option, map, option_map};
+    ghost use Rattle.lc_level.specs.Narrowing.{each_once, paths_in};
 
-    ghost Value = { List (List ℕ) };
+    ghost Value = { Option (List (List ℕ)) };
 
-    ghost view = { λ p. map (λ path. path.now) p.asked.now };
+    ghost view = { λ p. option_map (λ paths. map (λ path. path.now) paths.now) p.asked };
 
-    ghost invariant = { λ p. map (λ path. path.now) p.sorted.items ≡ each_once (map (λ path. path.now) p.asked.now) };
+    ghost invariant = { λ p. map (λ path. path.now) p.sorted.items
+        ≡ each_once (paths_in (option_map (λ paths. map (λ path. path.now) paths.now) p.asked)) };
 }
 
 /// Returns the paths in the order of their bytes, each once.
@@ -90,23 +91,26 @@ fn seen_from<'o>(
 }
 
 impl<'o> OnlyPaths<'o> {
-    /// Makes a list without paths, which selects all of a tree.
+    /// Gives no paths, which selects all of a tree.
     pub fn none(alloc: Global) -> OnlyPaths<'o>
-        ensures { result ≡ [] }
+        ensures { result ≡ None }
     {
         OnlyPaths {
-            asked: &[],
+            asked: None,
             sorted: Vec::new(alloc),
         }
     }
 
-    /// Sorts the paths `asked`. Each path is relative to the top of the tree, and has no slash at its end. If there are no paths, the whole
-    /// tree is selected.
+    /// Sorts the paths `asked`. Each path is relative to the top of the tree, and has no slash at its end. If the list is empty,
+    /// nothing but the top itself is selected.
     pub fn new(alloc: Global, asked: &'o [&'o [u8]]) -> Result<OnlyPaths<'o>, AllocError>
-        ensures { IfOk result (λ only. only ≡ map (λ path. path.now) asked.entry.now) }
+        ensures { IfOk result (λ only. only ≡ Some (map (λ path. path.now) asked.entry.now)) }
     {
         let sorted = sorted_once(alloc, asked)?;
-        Ok(OnlyPaths { asked, sorted })
+        Ok(OnlyPaths {
+            asked: Some(asked),
+            sorted,
+        })
     }
 
     /// Returns whether all of a directory is selected.
@@ -114,7 +118,7 @@ impl<'o> OnlyPaths<'o> {
         ensures { result ≡ is_whole self.now directory.now }
     {
         let sorted = self.sorted.as_slice();
-        self.asked.is_empty() || is_within(sorted, directory)
+        self.asked.is_none() || is_within(sorted, directory)
     }
 
     /// Returns the paths under a directory, relative to it. If there are none, nothing is allocated.

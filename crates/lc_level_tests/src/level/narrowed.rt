@@ -27,7 +27,8 @@ const TOP: &str = "
     left rule .gitignore:2 out/";
 
 const PARTS_OF_TOP: &[Part] = &[
-    ("no path", "", TOP),
+    ("all, since no paths are given", "", TOP),
+    ("no path of those that are given", "--no-path", ""),
     ("a file", "b.c", "b.c"),
     ("a directory", "src", "src/"),
     ("a file further down", "src/deep/a.c", "src/"),

@@ -38,9 +38,14 @@ const WHOLE: &str = "
 
 const PARTS: &[Part] = &[
     (
-        "no path: all that can't be read is met",
+        "all: what can't be read is met",
         "--files --left-out --max-dirs=5",
         WHOLE,
+    ),
+    (
+        "no path: the top is read alone",
+        "--files --left-out --no-path --max-dirs=1",
+        "directories 1 entries 0 calls 7",
     ),
     (
         "a file: the rules above it hold, and nothing else is read",

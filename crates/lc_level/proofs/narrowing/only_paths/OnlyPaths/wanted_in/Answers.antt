@@ -1,5 +1,5 @@
 use Rattle.std.proofs.Common.{sym, subst}
-use Rattle.lc_level.specs.Narrowing.{each_once}
+use Rattle.lc_level.specs.Narrowing.{each_once, paths_in}
 use Rattle.lc_level.proofs.{EachOnce.once_in_order, PathOrder.seen_in_order}
 use Rattle.lc_tree.specs.ByteOrder.{AreInOrder}
 use Rattle.lc_level.proofs.narrowing.only_paths.OnlyPaths.wanted_in.Goals as goal
@@ -7,4 +7,4 @@ use Rattle.lc_level.proofs.narrowing.only_paths.OnlyPaths.wanted_in.Goals as goa
 pub invariant_of-result : goal.invariant_of-result
 invariant_of-result c =
     subst AreInOrder (sym c.in_ok-rests.ensures)
-    (seen_in_order c.args.directory.now (each_once c.args.self.now) (once_in_order c.args.self.now))
+    (seen_in_order c.args.directory.now (each_once (paths_in c.args.self.now)) (once_in_order (paths_in c.args.self.now)))
