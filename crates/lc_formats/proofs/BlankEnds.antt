@@ -1,10 +1,11 @@
 -- Texts without the blanks at their ends.
 use Rattle.std.proofs.Common.{◌≡◌, ℕ, zero, suc, ◌/◌, ◌%◌, Bool, true, false, not, ◌==◌, ◌&&◌, if◌then◌else◌, List, [], ◌∷◌, ◌++◌, codes}
-use Rattle.std.proofs.{Common.{decimal, refl, ap, ap₂, ◌∙◌, arith}, lemmas.Bool.{and_parts, and_from, not-true, Decides.nat_tests}}
+use Rattle.std.proofs.Common.{decimal, refl, sym, ap, ap₂, ◌∙◌, arith, append_assoc}
+use Rattle.std.proofs.lemmas.Bool.{and_parts, and_from, not-true, Decides.nat_tests}
 use Rattle.std.proofs.lemmas.List.Folds.{list_all-append}
 use Rattle.std.specs.{Fmt.{digit_glyph, digits, digits_onto}, Int.abs_diff, List.list_all}
-use Rattle.lc_formats.specs.{Blanks.{char_before, ends_in_blank, without_blanks}, CellWords.{change_word, sign, with_commas}}
-use Rattle.lc_formats.specs.{Columns.{has_text, spaces}, Shares.{bar, share_word}}
+use Rattle.lc_formats.specs.{Blanks.{char_before, ends_in_blank, without_blanks}, CellWords.{change_word, growth_word, sign, with_commas}}
+use Rattle.lc_formats.specs.{Columns.{has_text, spaces}, Shares.{bar, rounded_parts, share_word}}
 use Rattle.lc_formats.proofs.{Bars.of_bar, OneLine.{all_weaker, encode_without, is_no_feed, is_numeral, is_one_line, numerals}}
 
 -- whether there is nothing
@@ -132,6 +133,20 @@ ends_change old new =
 pub ends_share : (tenths : ℕ) → ends_in_blank (share_word tenths) ≡ false
 ends_share tenths =
     ends-append (decimal (tenths / 10) ++ codes "." ++ decimal (tenths % 10)) (codes "%") (λ e. absurd (cc))
+
+-- and so does a change in per cent, if it has one
+pub ends_growth : (old new : ℕ) → ends_in_blank (growth_word old new) ≡ false
+ends_growth old new = at (old == 0) (new == 0)
+  where
+    at : (b c : Bool) → ends_in_blank (if b then if c then [] else codes "new" else sign old new
+        ++ share_word (rounded_parts 1000 (abs_diff old new) old)) ≡ false
+    at true true = refl
+    at true false = refl
+    at false c =
+        let tenths = rounded_parts 1000 (abs_diff old new) old in
+        let digits = decimal (tenths / 10) ++ codes "." ++ decimal (tenths % 10) in
+        ap ends_in_blank (sym (append_assoc (sign old new) digits (codes "%")))
+        ∙ ends-append (sign old new ++ digits) (codes "%") (λ e. absurd (cc))
 
 -- a bar ends in no blank
 pub ends_bar : (eighths : ℕ) → ends_in_blank (bar eighths) ≡ false

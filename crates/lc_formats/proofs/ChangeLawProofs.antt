@@ -1,9 +1,10 @@
 -- Proofs of what is true of the changes of numbers.
-use Rattle.std.proofs.Common.{◌≡◌, ◌+◌, ℕ, nat_lt, Bool, true, false, if◌then◌else◌, [], ◌++◌, codes, decimal, refl, ap, ◌∙◌, arith}
-use Rattle.std.proofs.lemmas.{Bool.{ltb-true, Decides.nat_tests}, Fmt.decimal_digit}
+use Rattle.std.proofs.Common.{◌≡◌, ◌==◌, ◌+◌, ℕ, nat_lt, Bool, true, false, if◌then◌else◌, [], ◌++◌, codes, decimal, refl, ap, ◌∙◌, arith}
+use Rattle.std.proofs.lemmas.{Bool.{ltb-true, ne_eqb, Decides.nat_tests}, Fmt.decimal_digit}
 use Rattle.std.specs.Int.{abs_diff}
-use Rattle.lc_formats.specs.{CellWords.{change_word, with_commas}, ChangeLaws.{ChangeLaw, NoChangeLaw, gained, lost, number_in}}
-use Rattle.lc_formats.proofs.CommaLawProofs.{commas_law}
+use Rattle.lc_formats.specs.{CellWords.{change_word, sign, with_commas}, ChangeLaws.{ChangeLaw, GrowthLaw, NoChangeLaw, gained, lost}}
+use Rattle.lc_formats.specs.{ChangeLaws.number_in, Shares.{rounded_parts, share_word}}
+use Rattle.lc_formats.proofs.{CommaLawProofs.commas_law, ShareLawProofs.nearest_law}
 
 apart_none : (old new : ℕ) → nat_lt old new ≡ false → nat_lt new old ≡ false → abs_diff old new ≡ 0
 apart_none old new e f = grind (arith, nat_tests)
@@ -30,3 +31,13 @@ no_change_law n = at (nat_lt n n) refl
     at : (p : Bool) → nat_lt n n ≡ p → change_word n n ≡ codes "0"
     at true e = let more = ltb-true n n e in absurd (omega (arith, more))
     at false e = rw e (stays (abs_diff n n) (apart_none n n e e))
+
+pub growth_law : GrowthLaw
+growth_law old new some =
+    let tenths = rounded_parts 1000 (abs_diff old new) old in
+    let nearest = nearest_law 1000 (abs_diff old new) old some in (
+      tenths,
+      ap (λ b. if b then if new == 0 then [] else codes "new" else sign old new ++ share_word tenths) (ne_eqb old 0 (λ e. omega arith)),
+      nearest.0,
+      nearest.1,
+    )

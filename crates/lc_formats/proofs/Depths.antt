@@ -6,7 +6,7 @@ use Rattle.json.specs.{Json.{Json, null, string, if_last, max_depth, value}, Lex
 use Rattle.json.specs.Tree.{depth, items_depth, members_depth}
 use Rattle.json.proofs.Printed.Trees.{value-json_tokens}
 use Rattle.lc_sheet.specs.{ColumnWords.column_word, Sheets.{SectionModel, SheetModel}, Values.{ValueModel, missing, summed, blank, word}}
-use Rattle.lc_sheet.specs.{Values.{flag, name, path, number, share, bar, difference}, declared.column.Column.Column}
+use Rattle.lc_sheet.specs.{Values.{flag, name, path, number, share, bar, difference, growth}, declared.column.Column.Column}
 use Rattle.lc_text.specs.Names.{named}
 use Rattle.lc_formats.specs.JsonLines.{change_object, column_in, lacks, line_members, line_object, members_in, object_of, part_members}
 use Rattle.lc_formats.specs.{JsonLines.{side_value, value_members}, JsonSheets.{json_of, line_at, list_member, list_members, number_member}}
@@ -47,6 +47,7 @@ value_within m (number n) = omega arith
 value_within m (share part whole) = omega arith
 value_within m (bar part whole) = omega arith
 value_within m (difference old new) = omega arith
+value_within m (growth old new) = omega arith
 
 null_or_within : (b : Bool) (ms : List Member) → members_depth (members_with ms) ≤ 1 → depth (if b then null else object_with ms) ≤ 2
 null_or_within true ms within = omega arith

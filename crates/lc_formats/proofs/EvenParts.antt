@@ -1,19 +1,21 @@
 -- The lines of a part of a table: lines of cells that are alike, and lines of hyphens.
-use Rattle.std.proofs.Common.{◌≡◌, ℕ, ◌+◌, true, false, List, [], ◌∷◌, ◌++◌, length, map, codes, replicate, refl, sym, ap, ◌∙◌, arith}
+use Rattle.std.proofs.Common.{◌≡◌, ◌≤◌, ℕ, ◌-◌, ◌==◌, Bool, true, false, if◌then◌else◌, List, [], ◌∷◌, ◌++◌, length, map, take, codes}
+use Rattle.std.proofs.Common.{replicate, refl, sym, ap, ◌∙◌, arith}
 use Rattle.std.proofs.{Common.{append_assoc, append-nil, ap₂, subst, suc, zero}, lemmas.List.{length-map, map-append}}
-use Rattle.std.proofs.lemmas.List.{replicate-append-replicate}
 use Rattle.std.proofs.lemmas.List.Elements.{All-append, All-cons, All-head, All-nil, All-same, All-tail, All-weaker}
 use Rattle.std.specs.List.{All, AllZip}
 use Rattle.lc_text.specs.Lines.{input_lines_of}
 use Rattle.lc_formats.specs.{Blanks.{ends_in_blank, padded_line, padded_lines, without_blanks}, Columns.{CellModel, line_in, lines_in}}
-use Rattle.lc_formats.specs.{Columns.{rule_in, widths_of, width_of}, TableText.listing, WidthLaws.{AreEven, HasEnd, IsAlignedListing}}
-use Rattle.lc_formats.specs.Layouts.{has_no_end, is_open}
+use Rattle.lc_formats.specs.{BarCells.{but_last, ruled}, Columns.{gap_width, line_width, rule_in, spaces, widths_of, width_of}}
+use Rattle.lc_formats.specs.{Layouts.{has_no_end, is_open}, PaddedText.padded_rule, TableText.listing}
+use Rattle.lc_formats.specs.WidthLaws.{AreEven, HasEnd, IsAlignedListing}
 use Rattle.lc_sheet.specs.declared.column.Side.{Side, TheVariants.{Left, Right, End}}
-use Rattle.lc_formats.proofs.{BlankEnds.{ends-append, ends_without, one_line_without, without_none}, EvenLines.{AreSound, Fit, end_at}}
+use Rattle.lc_formats.proofs.{BlankEnds.{blank_spaces, drop_end, ends-append, ends_without, one_line_without, without_none}}
+use Rattle.lc_formats.proofs.EvenLines.{AreSound, Fit, end_at}
 use Rattle.lc_formats.proofs.EvenLines.{end_of, front, is_layout, line_parted, one_line_end, one_line_front, side_width, sides, span}
 use Rattle.lc_formats.proofs.{EvenLines.{width_of-front, widths_fit}, LinesApart.{IsLined, lined-append, lined-one, input_lines_of-lined}}
 use Rattle.lc_formats.proofs.{OneLine.{is_one_line, one_line-append}, PrintedLines.{EndsBare, layout_open, line_open, line_printed}}
-use Rattle.lc_formats.proofs.Spacing.{one_line_hyphens, width_of-hyphens}
+use Rattle.lc_formats.proofs.Spacing.{one_line_hyphens, one_line_spaces, utf8_hyphens, width_of-after, width_of-hyphens}
 
 -- a line whose cells are at these sides
 abbrev pub IsLike : List Side → List CellModel → Type 0
@@ -91,30 +93,36 @@ printed_line ws l fits closed sound bare =
       each = one.each;
     }
 
-hyphens_joined : (w n : ℕ) → replicate w 45 ++ (codes "--" ++ (replicate n 45 ++ codes "\n")) ≡ replicate (w + (2 + n)) 45 ++ codes "\n"
-hyphens_joined w n =
-    let all : replicate w 45 ++ (codes "--" ++ replicate n 45) ≡ replicate (w + (2 + n)) 45 =
-    ap (λ (l : List ℕ). replicate w 45 ++ l) (replicate-append-replicate 2 n 45) ∙ replicate-append-replicate w (2 + n) 45 in
-    ap (λ (l : List ℕ). replicate w 45 ++ l) (sym (append_assoc (codes "--") (replicate n 45) (codes "\n")))
-    ∙ sym (append_assoc (replicate w 45) (codes "--" ++ replicate n 45) (codes "\n")) ∙ ap (λ (l : List ℕ). l ++ codes "\n") all
-
--- a line of hyphens has the width of the lines
-rule_is : (ss : List Side) (ws : List ℕ) → has_no_end ss ≡ true → length ws ≡ length ss
-    → rule_in ws ≡ replicate (span ss ws) 45 ++ codes "\n"
-rule_is [] [] closed long = refl
-rule_is [] (w ∷ ws) closed long = absurd (omega arith)
-rule_is (s ∷ ss) [] closed long = absurd (omega arith)
-rule_is (s ∷ []) (w ∷ []) closed long =
-    let own = (column_width s [] w closed).0 in
-    let n : w ≡ span (s ∷ []) (w ∷ []) = omega (arith, own) in ap (λ (n : ℕ). replicate n 45 ++ codes "\n") n
-rule_is (s ∷ []) (w ∷ v ∷ vs) closed long = absurd (omega arith)
-rule_is (s ∷ t ∷ ts) (w ∷ []) closed long = absurd (omega arith)
-rule_is (s ∷ t ∷ ts) (w ∷ v ∷ vs) closed long =
+-- lines are as wide as their columns and the gaps between these
+span_is : (ss : List Side) (ws : List ℕ) → has_no_end ss ≡ true → length ws ≡ length ss → span ss ws ≡ line_width ws
+span_is [] [] closed long = refl
+span_is [] (w ∷ ws) closed long = absurd (omega arith)
+span_is (s ∷ ss) [] closed long = absurd (omega arith)
+span_is (s ∷ []) (w ∷ []) closed long = let own = (column_width s [] w closed).0 in omega (arith, own)
+span_is (s ∷ []) (w ∷ v ∷ vs) closed long = absurd (omega arith)
+span_is (s ∷ t ∷ ts) (w ∷ []) closed long = absurd (omega arith)
+span_is (s ∷ t ∷ ts) (w ∷ v ∷ vs) closed long =
     let column = column_width s (t ∷ ts) w closed in
-    let more = span (t ∷ ts) (v ∷ vs) in
-    let n : w + (2 + more) ≡ span (s ∷ t ∷ ts) (w ∷ v ∷ vs) = omega (arith, column.0) in
-    ap (λ (l : List ℕ). replicate w 45 ++ (codes "--" ++ l)) (rule_is (t ∷ ts) (v ∷ vs) column.1 (omega arith))
-    ∙ hyphens_joined w more ∙ ap (λ (n : ℕ). replicate n 45 ++ codes "\n") n
+    let rest = span_is (t ∷ ts) (v ∷ vs) column.1 (omega arith) in omega (arith, column.0, rest)
+
+gap_fewer : (n : ℕ) (ws : List ℕ) → gap_width (take n ws) ≤ gap_width ws
+gap_fewer zero ws = omega arith
+gap_fewer (suc n) [] = omega arith
+gap_fewer (suc n) (w ∷ ws) = omega arith
+
+-- the first columns are no wider than all of them
+width_fewer : (n : ℕ) (ws : List ℕ) → line_width (take n ws) ≤ line_width ws
+width_fewer zero ws = omega arith
+width_fewer (suc n) [] = omega arith
+width_fewer (suc n) (w ∷ ws) = let gap = gap_fewer n ws in let rest = width_fewer n ws in omega arith
+
+-- a rule is no wider than the lines
+rule_within : (k : ℕ) (ws : List ℕ) → line_width (ruled k ws) ≤ line_width ws
+rule_within k ws = at (k == 0)
+  where
+    at : (b : Bool) → line_width (if b then but_last ws else ws) ≤ line_width ws
+    at true = width_fewer (length ws - 1) ws
+    at false = omega arith
 
 -- ---- texts whose lines are even with their blanks, and printed without them
 
@@ -165,16 +173,23 @@ ends_hyphens zero = refl
 ends_hyphens (suc zero) = refl
 ends_hyphens (suc (suc n)) = ends_hyphens (suc n)
 
--- a line of hyphens
-pub even_rule : (ss : List Side) (ws : List ℕ) → has_no_end ss ≡ true → length ws ≡ length ss
-    → IsEven (span ss ws) (replicate (span ss ws) 45 ∷ []) (rule_in ws) (rule_in ws)
-even_rule ss ws closed long =
-    let n = span ss ws in
+-- a rule, and the blanks of the column below which it is not drawn
+abbrev pub rule_line : ℕ → List ℕ → List ℕ
+rule_line k ws = replicate (line_width (ruled k ws)) 45 ++ spaces (line_width ws - line_width (ruled k ws))
+
+pub even_rule : (k : ℕ) (ss : List Side) (ws : List ℕ) → has_no_end ss ≡ true → length ws ≡ length ss
+    → IsEven (span ss ws) (rule_line k ws ∷ []) (padded_rule k ws) (rule_in (ruled k ws))
+even_rule k ss ws closed long =
+    let n = line_width (ruled k ws) in
     let hyphens = replicate n 45 in
-    let lined = subst (IsLined (hyphens ∷ [])) (sym (rule_is ss ws closed long)) (lined-one hyphens (one_line_hyphens n)) in record {
-      with_blanks = lined;
-      printed = subst (λ (l : List ℕ). IsLined (l ∷ []) (rule_in ws)) (sym (without_none hyphens (ends_hyphens n))) lined;
-      wide = All-cons (λ line. width_of line ≡ n) hyphens [] (width_of-hyphens n) (All-nil (λ line. width_of line ≡ n));
+    let blanks = spaces (line_width ws - n) in
+    let one = lined-one (rule_line k ws) (one_line-append hyphens blanks (one_line_hyphens n) (one_line_spaces (line_width ws - n))) in
+    let bare = drop_end hyphens blanks (blank_spaces (line_width ws - n)) ∙ without_none hyphens (ends_hyphens n) in
+    let wide = width_of-after hyphens (line_width ws - n) (utf8_hyphens n)
+    ∙ omega (arith, width_of-hyphens n, rule_within k ws, span_is ss ws closed long) in record {
+      with_blanks = record { text_is = sym (append_assoc hyphens blanks (codes "\n")) ∙ one.text_is; each = one.each };
+      printed = subst (λ (l : List ℕ). IsLined (l ∷ []) (rule_in (ruled k ws))) (sym bare) (lined-one hyphens (one_line_hyphens n));
+      wide = All-cons (λ line. width_of line ≡ span ss ws) (rule_line k ws) [] wide (All-nil (λ line. width_of line ≡ span ss ws));
     }
 
 -- the lines of such texts

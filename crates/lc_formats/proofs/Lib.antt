@@ -9,6 +9,7 @@ pub mod Sections
 pub mod Tokens
 pub mod SideTokens
 pub mod Widened
+pub mod TableWritten
 pub mod Commas
 pub mod LastCells
 pub mod OneLine

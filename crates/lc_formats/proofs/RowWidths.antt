@@ -1,21 +1,24 @@
 -- How wide the lines of rows, of their sums and of the last numbers are.
-use Rattle.std.proofs.Common.{◌≡◌, ℕ, Bool, true, false, if◌then◌else◌, List, [], ◌∷◌, ◌++◌, length, map, codes, replicate, Option, Some}
+use Rattle.std.proofs.Common.{◌≡◌, ◌*◌, ℕ, Bool, true, false, if◌then◌else◌, List, [], ◌∷◌, ◌++◌, length, map, codes, Option, Some}
 use Rattle.std.proofs.{Common.{None, append-nil, refl, sym, ap, ◌∙◌, subst, arith}, lemmas.List.Elements.{All-append, All-cons, All-head}}
 use Rattle.std.proofs.lemmas.List.Elements.{All-nil, All-tail, All-take}
 use Rattle.std.specs.List.{All}
 use Rattle.lc_text.specs.{Names.named, Visible.visible_bytes}
 use Rattle.lc_sheet.specs.{AttributeColumns.{heading_of, name_at}, ColumnWords.{heading, plain_name, side_of}}
-use Rattle.lc_sheet.specs.Values.{ValueModel, missing, summed, blank, word, flag, name, path, number, share, bar, difference}
+use Rattle.lc_sheet.specs.Values.{ValueModel, missing, summed, blank, word, flag, name, path, number, share, bar, difference, growth}
 use Rattle.lc_sheet.specs.{Sheets.{SectionModel, SheetModel}, declared.column.{Column.Column, Side.{Side, TheVariants.{Left, Right, End}}}}
-use Rattle.lc_formats.specs.{Blanks.ends_in_blank, Cells.{cell_of, heading_cells, heading_value, line_cells, section_cells}}
-use Rattle.lc_formats.specs.{Cells.shown_text, Columns.{CellModel, before_shown, has_text, is_shown, shown_cells, widths_of}}
+use Rattle.lc_formats.specs.{BarCells.ruled, Blanks.ends_in_blank, Cells.{cell_of, heading_cells, heading_value, line_cells}}
+use Rattle.lc_formats.specs.Cells.{section_cells, shown_in, shown_text}
+use Rattle.lc_formats.specs.Columns.{CellModel, before_shown, has_text, is_shown, rule_in, shown_cells, widths_of}
 use Rattle.lc_formats.specs.{Layouts.has_no_end, PaddedText.{padded_counts, padded_rows, padded_summary}, Readable.{AreReadable, AreRows}}
-use Rattle.lc_formats.specs.{Readable.{EndsInNumbers, IsNumeral, IsTabular}, Shares.rounded_parts}
+use Rattle.lc_formats.specs.{Readable.{EndsInNumbers, IsNumeral, IsTabular}, Shares.{full_bar, rounded_parts}}
 use Rattle.lc_formats.specs.TableText.{count_cells, count_lines, counts_of}
-use Rattle.lc_formats.specs.TableText.{entries_line, row_lines, rows_in_columns, shown_lines, shown_totals, summary, summary_widths}
+use Rattle.lc_formats.specs.TableText.{entries_line, row_lines, rows_in_columns, shown_lines, shown_totals, summary, summary_bar}
+use Rattle.lc_formats.specs.TableText.{summary_widths}
 use Rattle.lc_formats.specs.WidthLaws.{CountsWidthLaw, SummaryWidthLaw}
-use Rattle.lc_formats.proofs.{BlankEnds.{ends_bar, ends_change, ends_number, ends_share, shown_number}, EvenLines.{Fit, IsSound, span}}
-use Rattle.lc_formats.proofs.EvenParts.{IsEven, IsRow, are_even, even-append, even_line, even_lines, even_rule, rows_fit, shown}
+use Rattle.lc_formats.proofs.BlankEnds.{ends_bar, ends_change, ends_growth, ends_number, ends_share, shown_number}
+use Rattle.lc_formats.proofs.EvenLines.{Fit, IsSound, span}
+use Rattle.lc_formats.proofs.EvenParts.{IsEven, IsRow, are_even, even-append, even_line, even_lines, even_rule, rows_fit, rule_line, shown}
 use Rattle.lc_formats.proofs.{PrintedLines.EndsBare, SoundValues.{like_headings, like_line, named_at, shown_clear, sound_ascii}}
 use Rattle.lc_formats.proofs.SoundValues.{sound_value, visible_clear}
 use Rattle.lc_sheet.specs.declared.column.Column.TheVariants as column
@@ -52,24 +55,25 @@ bare_behind [] c cs is bare = bare_ends (c ∷ cs) bare
 bare_behind (k ∷ ks) c cs is bare =
     ((λ none. absurd (some_shown c (shown_cells cs) is (shown_rest ks (c ∷ cs) none))), bare_behind ks c cs is bare)
 
-bare_numeral : (v : ValueModel) → IsNumeral v → ends_in_blank (shown_text v) ≡ false
-bare_numeral missing is = absurd is
-bare_numeral summed is = refl
-bare_numeral blank is = refl
-bare_numeral (word w) is = absurd is
-bare_numeral (flag is_set) is = absurd is
-bare_numeral (name n) is = absurd is
-bare_numeral (path p) is = absurd is
-bare_numeral (number n) is = ends_number n
-bare_numeral (share part whole) is = ends_share (rounded_parts 1000 part whole)
-bare_numeral (bar part whole) is = ends_bar (rounded_parts 160 part whole)
-bare_numeral (difference old new) is = ends_change old new
+bare_numeral : (k : ℕ) (v : ValueModel) → IsNumeral v → ends_in_blank (shown_in k v) ≡ false
+bare_numeral k missing is = absurd is
+bare_numeral k summed is = refl
+bare_numeral k blank is = refl
+bare_numeral k (word w) is = absurd is
+bare_numeral k (flag is_set) is = absurd is
+bare_numeral k (name n) is = absurd is
+bare_numeral k (path p) is = absurd is
+bare_numeral k (number n) is = ends_number n
+bare_numeral k (share part whole) is = ends_share (rounded_parts 1000 part whole)
+bare_numeral k (bar part whole) is = ends_bar (rounded_parts (8 * k) part whole)
+bare_numeral k (difference old new) is = ends_change old new
+bare_numeral k (growth old new) is = ends_growth old new
 
-bare_numerals : (columns : List Column) (values : List ValueModel) → All IsNumeral values → AreBare (line_cells columns values)
-bare_numerals [] values are = tt
-bare_numerals (c ∷ cs) [] are = tt
-bare_numerals (c ∷ cs) (v ∷ vs) are =
-    (bare_numeral v (All-head IsNumeral v vs are), bare_numerals cs vs (All-tail IsNumeral v vs are))
+bare_numerals : (k : ℕ) (columns : List Column) (values : List ValueModel) → All IsNumeral values → AreBare (line_cells k columns values)
+bare_numerals k [] values are = tt
+bare_numerals k (c ∷ cs) [] are = tt
+bare_numerals k (c ∷ cs) (v ∷ vs) are =
+    (bare_numeral k v (All-head IsNumeral v vs are), bare_numerals k cs vs (All-tail IsNumeral v vs are))
 
 number_shown : (side : Side) (t : List ℕ) → has_text t ≡ true → is_shown side t ≡ true
 number_shown Left t is = is
@@ -77,31 +81,31 @@ number_shown Right t is = is
 number_shown End t is = refl
 
 -- the cells before one value, its own and those after it
-parted : (columns : List Column) (keys : List ValueModel) (v : ValueModel) (more : List ValueModel) → AreReadable columns (keys ++ v ∷ more)
-    → (front : List CellModel) × (c : Column) × (cs : List Column)
-    × (line_cells columns (keys ++ v ∷ more) ≡ front ++ (cell_of c v ∷ line_cells cs more))
-parted [] [] v more own = absurd own
-parted [] (k ∷ ks) v more own = absurd own
-parted (c ∷ cs) [] v more own = ([], c, cs, refl)
-parted (c ∷ cs) (k ∷ ks) v more own =
-    let rest = parted cs ks v more own.1 in
-    (cell_of c k ∷ rest.0, rest.1, rest.2, ap (λ (l : List CellModel). cell_of c k ∷ l) rest.3)
+parted : (k : ℕ) (columns : List Column) (keys : List ValueModel) (v : ValueModel) (more : List ValueModel)
+    → AreReadable columns (keys ++ v ∷ more) → (front : List CellModel) × (c : Column) × (cs : List Column)
+    × (line_cells k columns (keys ++ v ∷ more) ≡ front ++ (cell_of k c v ∷ line_cells k cs more))
+parted k [] [] v more own = absurd own
+parted k [] (y ∷ ys) v more own = absurd own
+parted k (c ∷ cs) [] v more own = ([], c, cs, refl)
+parted k (c ∷ cs) (y ∷ ys) v more own =
+    let rest = parted k cs ys v more own.1 in
+    (cell_of k c y ∷ rest.0, rest.1, rest.2, ap (λ (l : List CellModel). cell_of k c y ∷ l) rest.3)
 
-bare_parted : (columns : List Column) (keys : List ValueModel) (n : ℕ) (more : List ValueModel)
-    → AreReadable columns (keys ++ number n ∷ more) → All IsNumeral more → EndsBare (line_cells columns (keys ++ number n ∷ more))
-bare_parted columns keys n more own are =
-    let parts = parted columns keys (number n) more own in
+bare_parted : (k : ℕ) (columns : List Column) (keys : List ValueModel) (n : ℕ) (more : List ValueModel)
+    → AreReadable columns (keys ++ number n ∷ more) → All IsNumeral more → EndsBare (line_cells k columns (keys ++ number n ∷ more))
+bare_parted k columns keys n more own are =
+    let parts = parted k columns keys (number n) more own in
     let c = parts.1 in
     subst EndsBare (sym parts.3)
-    (bare_behind parts.0 (cell_of c (number n)) (line_cells parts.2 more) (number_shown (side_of c) _ (shown_number n))
-    (ends_number n, bare_numerals parts.2 more are))
+    (bare_behind parts.0 (cell_of k c (number n)) (line_cells k parts.2 more) (number_shown (side_of c) _ (shown_number n))
+    (ends_number n, bare_numerals k parts.2 more are))
 
-bare_line : (columns : List Column) (values : List ValueModel) → AreReadable columns values → EndsInNumbers values
-    → EndsBare (line_cells columns values)
-bare_line columns values own ends =
+bare_line : (k : ℕ) (columns : List Column) (values : List ValueModel) → AreReadable columns values → EndsInNumbers values
+    → EndsBare (line_cells k columns values)
+bare_line k columns values own ends =
     let is = ends.3 in
-    subst (λ (vs : List ValueModel). EndsBare (line_cells columns vs)) (sym is)
-    (bare_parted columns ends.0 ends.2 ends.1 (subst (AreReadable columns) is own) ends.4)
+    subst (λ (vs : List ValueModel). EndsBare (line_cells k columns vs)) (sym is)
+    (bare_parted k columns ends.0 ends.2 ends.1 (subst (AreReadable columns) is own) ends.4)
 
 -- names whose headings end in no blank
 abbrev BareNames : List (List ℕ) → Type 0
@@ -137,20 +141,19 @@ module _ {X : Type 0} (P : X → Type 0) where
   All-back [] ys all = all
   All-back (x ∷ xs) ys all = All-back xs ys (All-tail P x (xs ++ ys) all)
 
-abbrev pub even_rows_lines : List Side → List ℕ → List CellModel → List (List CellModel) → List (List CellModel) → List (List ℕ)
-even_rows_lines ss ws headings rows sums =
-    (shown ws headings ∷ []) ++ (replicate (span ss ws) 45 ∷ []) ++ map (shown ws) rows ++ (replicate (span ss ws) 45 ∷ [])
-    ++ map (shown ws) sums
+abbrev pub even_rows_lines : ℕ → List ℕ → List CellModel → List (List CellModel) → List (List CellModel) → List (List ℕ)
+even_rows_lines k ws headings rows sums =
+    (shown ws headings ∷ []) ++ (rule_line k ws ∷ []) ++ map (shown ws) rows ++ (rule_line k ws ∷ []) ++ map (shown ws) sums
 
-rows_even : (ss : List Side) (headings : List CellModel) (rows sums : List (List CellModel)) (ws : List ℕ) → has_no_end ss ≡ true
+rows_even : (k : ℕ) (ss : List Side) (headings : List CellModel) (rows sums : List (List CellModel)) (ws : List ℕ) → has_no_end ss ≡ true
     → All (Fit ws) (headings ∷ (rows ++ sums)) → length ws ≡ length ss → All (IsRow ss) (headings ∷ (rows ++ sums))
-    → IsEven (span ss ws) (even_rows_lines ss ws headings rows sums) (padded_rows ws headings rows sums)
-    (rows_in_columns ws headings rows sums)
-rows_even ss headings rows sums ws closed fits long are =
+    → IsEven (span ss ws) (even_rows_lines k ws headings rows sums) (padded_rows k ws headings rows sums)
+    (rows_in_columns ws (rule_in (ruled k ws)) headings rows sums)
+rows_even k ss headings rows sums ws closed fits long are =
     let n = span ss ws in
     let rest_fits = All-tail (Fit ws) headings (rows ++ sums) fits in
     let rest_are = All-tail (IsRow ss) headings (rows ++ sums) are in
-    let rule = even_rule ss ws closed long in
+    let rule = even_rule k ss ws closed long in
     let top = even_line ss ws headings closed (All-head (Fit ws) headings (rows ++ sums) fits)
     (All-head (IsRow ss) headings (rows ++ sums) are) in
     let middle = even_lines ss ws rows closed (All-front (Fit ws) rows sums rest_fits) (All-front (IsRow ss) rows sums rest_are) in
@@ -163,19 +166,19 @@ rows_even ss headings rows sums ws closed fits long are =
 abbrev AreRowsIn : List Column → List (List CellModel) → Type 0
 AreRowsIn columns lines = All (IsRow (map side_of columns)) lines
 
-rows_of_lines : (columns : List Column) (lines : List (List ValueModel)) → All (AreReadable columns) lines → All EndsInNumbers lines
-    → AreRowsIn columns (map (line_cells columns) lines)
-rows_of_lines columns [] own ends = All-nil (IsRow (map side_of columns))
-rows_of_lines columns (l ∷ ls) own ends =
+rows_of_lines : (k : ℕ) (columns : List Column) (lines : List (List ValueModel)) → All (AreReadable columns) lines
+    → All EndsInNumbers lines → AreRowsIn columns (map (line_cells k columns) lines)
+rows_of_lines k columns [] own ends = All-nil (IsRow (map side_of columns))
+rows_of_lines k columns (l ∷ ls) own ends =
     let here = All-head (AreReadable columns) l ls own in
-    All-cons (IsRow (map side_of columns)) (line_cells columns l) (map (line_cells columns) ls)
-    (like_line columns l here, bare_line columns l here (All-head EndsInNumbers l ls ends))
-    (rows_of_lines columns ls (All-tail (AreReadable columns) l ls own) (All-tail EndsInNumbers l ls ends))
+    All-cons (IsRow (map side_of columns)) (line_cells k columns l) (map (line_cells k columns) ls)
+    (like_line k columns l here, bare_line k columns l here (All-head EndsInNumbers l ls ends))
+    (rows_of_lines k columns ls (All-tail (AreReadable columns) l ls own) (All-tail EndsInNumbers l ls ends))
 
-rows_of_section : (columns : List Column) (s : SectionModel) → AreRows columns s → AreRowsIn columns (section_cells s)
-rows_of_section columns s are =
-    subst (λ (cs : List Column). AreRowsIn columns (map (line_cells cs) s.lines)) (sym are.in_columns)
-    (rows_of_lines columns s.lines are.readable are.numbers)
+rows_of_section : (k : ℕ) (columns : List Column) (s : SectionModel) → AreRows columns s → AreRowsIn columns (section_cells k s)
+rows_of_section k columns s are =
+    subst (λ (cs : List Column). AreRowsIn columns (map (line_cells k cs) s.lines)) (sym are.in_columns)
+    (rows_of_lines k columns s.lines are.readable are.numbers)
 
 -- and so are the first of its lines alone
 rows_shown : (all : Bool) (columns : List Column) (s : SectionModel) → AreRows columns s → AreRows columns (shown_lines all s)
@@ -186,32 +189,39 @@ rows_shown false columns s are = record {
   numbers = All-take EndsInNumbers 1 s.lines are.numbers;
 }
 
+-- how many cells the longest bar of a sheet has, and how wide the columns of its rows are
+abbrev bar_of : SheetModel → ℕ
+bar_of s = summary_bar s.rows s.others (shown_totals s)
+
+abbrev widths_in : SheetModel → List ℕ
+widths_in s = summary_widths (bar_of s) s.rows s.others (shown_totals s)
+
 abbrev pub summary_span : SheetModel → ℕ
-summary_span s = span (map side_of s.rows.columns) (summary_widths s.rows s.others (shown_totals s))
+summary_span s = span (map side_of s.rows.columns) (widths_in s)
 
 abbrev pub summary_lines : SheetModel → List (List ℕ)
 summary_lines s =
-    even_rows_lines (map side_of s.rows.columns) (summary_widths s.rows s.others (shown_totals s))
-    (heading_cells s.rows.attributes s.rows.columns)
-    (row_lines s.rows s.others) (section_cells (shown_totals s))
+    even_rows_lines (bar_of s) (widths_in s) (heading_cells s.rows.attributes s.rows.columns) (row_lines (bar_of s) s.rows s.others)
+    (section_cells (bar_of s) (shown_totals s))
 
 pub even_summary : (s : SheetModel) → IsTabular s → IsEven (summary_span s) (summary_lines s) (padded_summary s) (summary s)
 even_summary s is =
+    let k = bar_of s in
     let columns = s.rows.columns in
     let R = IsRow (map side_of columns) in
     let headings = heading_cells s.rows.attributes columns in
-    let rows = row_lines s.rows s.others in
-    let sums = section_cells (shown_totals s) in
-    let seen = All-append R (section_cells s.rows) (section_cells s.others) (rows_of_section columns s.rows is.rows)
-    (rows_of_section columns s.others is.others) in
+    let rows = row_lines k s.rows s.others in
+    let sums = section_cells k (shown_totals s) in
+    let seen = All-append R (section_cells k s.rows) (section_cells k s.others) (rows_of_section k columns s.rows is.rows)
+    (rows_of_section k columns s.others is.others) in
     let all = All-append R rows sums seen
-    (rows_of_section columns (shown_totals s) (rows_shown s.some_binary columns s.totals is.totals)) in
+    (rows_of_section k columns (shown_totals s) (rows_shown s.some_binary columns s.totals is.totals)) in
     let are = All-cons R headings (rows ++ sums) (
       like_headings s.rows.attributes columns is.names,
       bare_ends headings (bare_headings s.rows.attributes is.bare columns),
     ) all in
     let fits = rows_fit (map side_of columns) headings (rows ++ sums) are in
-    rows_even (map side_of columns) headings rows sums (summary_widths s.rows s.others (shown_totals s)) is.closed fits.0 fits.1 are
+    rows_even k (map side_of columns) headings rows sums (widths_in s) is.closed fits.0 fits.1 are
 
 -- the lines of rows and sums
 pub summary_law : SummaryWidthLaw
@@ -223,7 +233,7 @@ abbrev pub count_sides : List Side
 count_sides = Left ∷ Right ∷ []
 
 row_count : (t : List ℕ) (n : ℕ) → IsSound Left t → ends_in_blank t ≡ false → IsRow count_sides (count_cells t n)
-row_count t n sound own = ((refl, (sound, (sound_value Right (number n) tt, tt))), ((λ none. own), ((λ none. ends_number n), tt)))
+row_count t n sound own = ((refl, (sound, (sound_value full_bar Right (number n) tt, tt))), ((λ none. own), ((λ none. ends_number n), tt)))
 
 rows_entries : (entries : Option ℕ) → All (IsRow count_sides) (entries_line entries)
 rows_entries None = All-nil (IsRow count_sides)

@@ -1,6 +1,6 @@
 -- The texts of values are in one line, and UTF-8.
-use Rattle.std.proofs.Common.{◌≡◌, ℕ, ◌/◌, ◌%◌, nat_lt, Bool, true, false, if◌then◌else◌, List, [], ◌∷◌, ◌++◌, map, codes, decimal}
-use Rattle.std.proofs.{Common.{encode_utf8, Option, Some, None, unwrap_or, inl, inr, append-nil, refl, sym, ap, ◌∙◌, subst, arith}}
+use Rattle.std.proofs.Common.{◌≡◌, ◌==◌, ◌*◌, ℕ, ◌/◌, ◌%◌, nat_lt, Bool, true, false, if◌then◌else◌, List, [], ◌∷◌, ◌++◌, map, codes}
+use Rattle.std.proofs.{Common.{decimal, encode_utf8, Option, Some, None, unwrap_or, inl, inr, append-nil, refl, sym, ap, ◌∙◌, subst, arith}}
 use Rattle.std.proofs.lemmas.{Bool.Decides.nat_tests, List.Elements.{All-get_or, All-nil}, Option.{slice_get_cases, unwrap_or-slice_get}}
 use Rattle.std.proofs.lemmas.Str.{IsUtf8-append, IsUtf8-encode}
 use Rattle.std.specs.{Int.abs_diff, List.{All, list_all}, Str.IsUtf8}
@@ -9,9 +9,9 @@ use Rattle.json.proofs.Printed.Utf8.{are_ascii, IsUtf8-are_ascii}
 use Rattle.lc_text.specs.{Names.{NameModel, line_end}, Visible.{is_clear, visible_bytes, visible_path}}
 use Rattle.lc_text.proofs.Clear.{visible_bytes-text, visible_char-clear}
 use Rattle.lc_sheet.specs.{ColumnWords.{heading, heading_name, plain_name, side_of}, Values.{ValueModel, missing, summed, blank, word}}
-use Rattle.lc_sheet.specs.{Values.{flag, flag_word, name, path, number, share, bar, difference}, declared.column.Column.Column}
+use Rattle.lc_sheet.specs.{Values.{flag, flag_word, name, path, number, share, bar, difference, growth}, declared.column.Column.Column}
 use Rattle.lc_sheet.specs.declared.column.Side.{Side, TheVariants.{Left, Right, End}}
-use Rattle.lc_formats.specs.{CellWords.{change_word, sign, with_commas}, Cells.{heading_cells, line_cells, shown_text}}
+use Rattle.lc_formats.specs.{CellWords.{change_word, sign, with_commas}, Cells.{heading_cells, line_cells, shown_in, shown_text}}
 use Rattle.lc_formats.specs.{Readable.{AreBytes, AreNames, AreReadable, HasBytes, IsPlain, IsReadable, is_printable}}
 use Rattle.lc_formats.specs.Shares.{bar as bar_text, rounded_parts, share_word}
 use Rattle.lc_formats.proofs.{Bars.of_bar, EvenLines.IsSound, EvenParts.IsLike, OneLine.{is_no_feed, is_one_line, low_text}}
@@ -100,31 +100,40 @@ sound_flag : (side : Side) (is_set : Bool) → IsSound side (flag_word is_set)
 sound_flag side true = sound_ascii side (codes "set") refl refl
 sound_flag side false = sound_ascii side (codes "unset") refl refl
 
+sound_growth : (side : Side) (old new : ℕ) (b c : Bool)
+    → IsSound side (if b then if c then [] else codes "new" else sign old new ++ share_word (rounded_parts 1000 (abs_diff old new) old))
+sound_growth side old new true true = sound_ascii side [] refl refl
+sound_growth side old new true false = sound_ascii side (codes "new") refl refl
+sound_growth side old new false c =
+    let tenths = rounded_parts 1000 (abs_diff old new) old in
+    sound_join side (sign old new) (share_word tenths) (sound_sign side (nat_lt old new) (nat_lt new old)) (sound_share side tenths)
+
 -- the text of a value
-pub sound_value : (side : Side) (v : ValueModel) → IsReadable side v → IsSound side (shown_text v)
-sound_value side missing own = sound_ascii side (codes "-") refl refl
-sound_value side summed own = sound_ascii side [] refl refl
-sound_value side blank own = sound_ascii side [] refl refl
-sound_value side (word w) own = sound_plain side w own
-sound_value side (flag is_set) own = sound_flag side is_set
-sound_value side (name n) own = sound_name side n own
-sound_value side (path p) own = sound_path side p own
-sound_value side (number n) own = sound_number side n
-sound_value side (share part whole) own = sound_share side (rounded_parts 1000 part whole)
-sound_value side (bar part whole) own = sound_bar side (rounded_parts 160 part whole)
-sound_value side (difference old new) own = sound_change side old new
+pub sound_value : (k : ℕ) (side : Side) (v : ValueModel) → IsReadable side v → IsSound side (shown_in k v)
+sound_value k side missing own = sound_ascii side (codes "-") refl refl
+sound_value k side summed own = sound_ascii side [] refl refl
+sound_value k side blank own = sound_ascii side [] refl refl
+sound_value k side (word w) own = sound_plain side w own
+sound_value k side (flag is_set) own = sound_flag side is_set
+sound_value k side (name n) own = sound_name side n own
+sound_value k side (path p) own = sound_path side p own
+sound_value k side (number n) own = sound_number side n
+sound_value k side (share part whole) own = sound_share side (rounded_parts 1000 part whole)
+sound_value k side (bar part whole) own = sound_bar side (rounded_parts (8 * k) part whole)
+sound_value k side (difference old new) own = sound_change side old new
+sound_value k side (growth old new) own = sound_growth side old new (old == 0) (new == 0)
 
 -- ---- lines
 
 -- the cells of a line
-pub like_line : (columns : List Column) (values : List ValueModel) → AreReadable columns values
-    → IsLike (map side_of columns) (line_cells columns values)
-like_line [] [] own = (refl, tt)
-like_line [] (v ∷ vs) own = absurd own
-like_line (c ∷ cs) [] own = absurd own
-like_line (c ∷ cs) (v ∷ vs) own =
-    let rest = like_line cs vs own.1 in
-    (ap (λ (ss : List Side). side_of c ∷ ss) rest.0, (sound_value (side_of c) v own.0, rest.1))
+pub like_line : (k : ℕ) (columns : List Column) (values : List ValueModel) → AreReadable columns values
+    → IsLike (map side_of columns) (line_cells k columns values)
+like_line k [] [] own = (refl, tt)
+like_line k [] (v ∷ vs) own = absurd own
+like_line k (c ∷ cs) [] own = absurd own
+like_line k (c ∷ cs) (v ∷ vs) own =
+    let rest = like_line k cs vs own.1 in
+    (ap (λ (ss : List Side). side_of c ∷ ss) rest.0, (sound_value k (side_of c) v own.0, rest.1))
 
 -- what holds of nothing and of each of some names holds of the name at a place
 pub named_at : (P : List ℕ → Type 0) → P [] → (names : List (List ℕ)) → All P names → (place : ℕ) → P (name_at names place)

@@ -109,6 +109,11 @@ width_of-hyphens n =
     ap (str_width false) (chars-IsAscii (replicate n 45) (ascii_copies 45 n (omega arith)))
     ∙ str_width-printable false (replicate n 45) (copies_pass (is_in_range 0x20 0x7E) 45 refl n) ∙ length-replicate n 45
 
+-- hyphens are UTF-8
+pub utf8_hyphens : (n : ℕ) → IsUtf8 (replicate n 45)
+utf8_hyphens zero = IsUtf8-nil
+utf8_hyphens (suc n) = IsUtf8-append (45 ∷ []) (replicate n 45) (IsUtf8-are_ascii (45 ∷ []) refl) (utf8_hyphens n)
+
 -- hyphens are on one line
 pub one_line_hyphens : (n : ℕ) → is_one_line (replicate n 45) ≡ true
 one_line_hyphens n = copies_pass is_no_feed 45 refl n

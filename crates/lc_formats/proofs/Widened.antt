@@ -1,8 +1,9 @@
 -- Widths of columns, one cell more at a time.
 use Rattle.std.proofs.Common.{◌≡◌, ℕ, zero, suc, ◌+◌, ◌<◌, ◌≤◌, max, List, [], ◌∷◌, ◌++◌, length, map, take, get_or, set, refl, sym, ap}
-use Rattle.std.proofs.{Common.{◌∙◌, ◌==◌, false, codes, arith, append_assoc, append-nil}, lemmas.List.{take_more, map-append, length-map}}
-use Rattle.std.proofs.lemmas.List.{length-take-le, get_or_default, Concat.flat_map-append}
-use Rattle.lc_formats.specs.Columns.{CellModel, cell_widths, line_in, lines_in, listing_in, rule_in, wider, widened, widths_of, width_at}
+use Rattle.std.proofs.{Common.{◌∙◌, ◌==◌, false, codes, arith, append_assoc, append-nil, replicate}, lemmas.List.{take_more, map-append}}
+use Rattle.std.proofs.lemmas.List.{length-map, length-take-le, get_or_default, replicate-append-replicate, Concat.flat_map-append}
+use Rattle.lc_formats.specs.Columns.{CellModel, cell_widths, gap_width, line_in, line_width, lines_in, listing_in, wider, widened}
+use Rattle.lc_formats.specs.Columns.{widths_of, width_at}
 use Rattle.lc_formats.specs.{Cells.{cell_model, cells_of}, TableText.{listing, rows_in_columns}, declared.cells.Cell.Cell}
 use Rattle.lc_formats.specs.Widening.{with_width}
 
@@ -112,22 +113,35 @@ pub listed_some : {A : Type 0} (headings : List CellModel) (cells : A → List C
 listed_some headings cells [] some = absurd (cc)
 listed_some headings cells (x ∷ xs) some = refl
 
--- some lines and then others
-pub lines_written : (initial t1 t2 ws : List ℕ) (xs ys : List (List CellModel)) → t1 ≡ initial ++ lines_in ws xs
-    → t2 ≡ t1 ++ lines_in ws ys → t2 ≡ initial ++ lines_in ws (xs ++ ys)
-lines_written initial t1 t2 ws xs ys e1 e2 =
-    e2 ∙ ap (λ (t : List ℕ). t ++ lines_in ws ys) e1 ∙ append_assoc initial (lines_in ws xs) (lines_in ws ys)
-    ∙ ap (λ (t : List ℕ). initial ++ t) (sym (flat_map-append (line_in ws) xs ys))
+-- columns that fit headings, rows and sums
+pub rows_fitted : (first second third ws : List ℕ) (headings : List CellModel) (rows others sums : List (List CellModel))
+    → first ≡ wider [] (cell_widths headings) → second ≡ widened first rows → third ≡ widened second others → ws ≡ widened third sums
+    → ws ≡ widths_of (headings ∷ ((rows ++ others) ++ sums))
+rows_fitted first second third ws headings rows others sums a b c d =
+    let start = wider [] (cell_widths headings) in
+    d
+    ∙ ap (λ (l : List ℕ). widened l sums)
+    (c ∙ ap (λ (l : List ℕ). widened l others) (b ∙ ap (λ (l : List ℕ). widened l rows) a) ∙ sym (widened-append start rows others))
+    ∙ sym (widened-append start (rows ++ others) sums)
 
--- headings, rows and sums in columns that fit them all
-pub rows_written : (initial t1 t2 t3 t4 t5 first second ws : List ℕ) (headings : List CellModel) (rows sums : List (List CellModel))
-    → first ≡ wider [] (cell_widths headings) → second ≡ widened first rows → ws ≡ widened second sums
-    → t1 ≡ initial ++ line_in ws headings → t2 ≡ t1 ++ rule_in ws → t3 ≡ t2 ++ lines_in ws rows → t4 ≡ t3 ++ rule_in ws
-    → t5 ≡ t4 ++ lines_in ws sums
-    → t5 ≡ initial ++ rows_in_columns (widths_of (headings ∷ (rows ++ sums))) headings rows sums
-rows_written initial t1 t2 t3 t4 t5 first second ws headings rows sums a b c e1 e2 e3 e4 e5 =
-    let all : ws ≡ widths_of (headings ∷ (rows ++ sums)) =
-    c ∙ ap (λ (l : List ℕ). widened l sums) (b ∙ ap (λ (l : List ℕ). widened l rows) a)
-    ∙ sym (widened-append (wider [] (cell_widths headings)) rows sums) in
-    let joined : t5 ≡ initial ++ rows_in_columns ws headings rows sums = rw (e5, e4, e3, e2, e1) (simp append_assoc) in
-    joined ∙ ap (λ (l : List ℕ). initial ++ rows_in_columns l headings rows sums) all
+-- headings, rows and sums with a rule between them
+pub rows_written : (initial t1 t2 t3 t4 t5 t6 ws rule : List ℕ) (headings : List CellModel) (rows others sums : List (List CellModel))
+    → t1 ≡ initial ++ line_in ws headings → t2 ≡ t1 ++ rule → t3 ≡ t2 ++ lines_in ws rows → t4 ≡ t3 ++ lines_in ws others
+    → t5 ≡ t4 ++ rule → t6 ≡ t5 ++ lines_in ws sums → t6 ≡ initial ++ rows_in_columns ws rule headings (rows ++ others) sums
+rows_written initial t1 t2 t3 t4 t5 t6 ws rule headings rows others sums e1 e2 e3 e4 e5 e6 =
+    rw (e6, e5, e4, e3, e2, e1, flat_map-append (line_in ws) rows others) (simp append_assoc)
+
+-- ---- rules
+
+-- one column more, and the gap before others
+pub rule_pushed : (initial t1 t2 t3 ws others : List ℕ) (w all : ℕ) → t1 ++ replicate (line_width ws) 45 ≡ initial ++ replicate all 45
+    → ws ≡ w ∷ others → t2 ≡ t1 ++ replicate w 45 → t3 ≡ t2 ++ replicate (gap_width others) 45
+    → t3 ++ replicate (line_width others) 45 ≡ initial ++ replicate all 45
+rule_pushed initial t1 t2 t3 ws others w all so_far is e2 e3 =
+    let g = gap_width others in
+    let n = line_width others in
+    let joined : replicate w 45 ++ (replicate g 45 ++ replicate n 45) ≡ replicate (line_width ws) 45 =
+    ap (λ (l : List ℕ). replicate w 45 ++ l) (replicate-append-replicate g n 45) ∙ replicate-append-replicate w (g + n) 45
+    ∙ ap (λ (l : List ℕ). replicate (line_width l) 45) (sym is) in
+    rw (e3, e2) (append_assoc (t1 ++ replicate w 45) (replicate g 45) (replicate n 45)
+    ∙ append_assoc t1 (replicate w 45) (replicate g 45 ++ replicate n 45) ∙ ap (λ (l : List ℕ). t1 ++ l) joined ∙ so_far)

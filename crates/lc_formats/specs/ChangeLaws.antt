@@ -1,6 +1,7 @@
 -- What is true of the changes of numbers.
-use Rattle.std.specs.{Prelude.{◌≡◌, ◌<◌, ◌^◌, ◌+◌, ◌==◌, ℕ, not, if◌then◌else◌, List, [], ◌∷◌, filter, codes}, Str.Parse.digits_value}
-use Rattle.lc_formats.specs.CellWords.{change_word}
+use Rattle.std.specs.Prelude.{◌≡◌, ◌<◌, ◌≤◌, ◌^◌, ◌+◌, ◌*◌, ◌==◌, ℕ, not, if◌then◌else◌, List, [], ◌∷◌, ◌++◌, filter, codes}
+use Rattle.std.specs.{Int.abs_diff, Str.Parse.digits_value}
+use Rattle.lc_formats.specs.{CellWords.{change_word, growth_word, sign}, Shares.share_word}
 
 -- the number whose digits a text has, without the commas
 abbrev pub number_in : List ℕ → ℕ
@@ -24,3 +25,11 @@ ChangeLaw =
 -- the change of a number that is the same is a zero without a sign
 abbrev pub NoChangeLaw : Type 0
 NoChangeLaw = (n : ℕ) → change_word n n ≡ codes "0"
+
+-- a change in per cent of a number above 0 has the sign of the change, and its size is rounded half up: it is at most half a tenth of a per
+-- cent above the quotient, and less than half a tenth below it
+abbrev pub GrowthLaw : Type 0
+GrowthLaw =
+    (old new : ℕ) → 0 < old
+    → (tenths : ℕ) × (growth_word old new ≡ sign old new ++ share_word tenths)
+    × (2 * old * tenths ≤ 2 * 1000 * abs_diff old new + old) × (2 * 1000 * abs_diff old new < 2 * old * tenths + old)

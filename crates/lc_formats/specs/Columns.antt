@@ -98,11 +98,18 @@ lines_in ws lines = flat_map (line_in ws) lines
 abbrev pub listing_in : List ℕ → List CellModel → List (List CellModel) → List ℕ
 listing_in ws headings lines = lines_in ws (headings ∷ lines) ++ codes "\n"
 
--- the two hyphens between the hyphens of a column and those of the next column
-abbrev pub rule_gap : List ℕ → List ℕ
-rule_gap [] = []
-rule_gap (w ∷ ws) = codes "--"
+-- ---- how wide lines are
 
+-- the width of the gap before further columns
+abbrev pub gap_width : List ℕ → ℕ
+gap_width [] = 0
+gap_width (w ∷ ws) = 2
+
+-- how many columns of a terminal lines take in columns of these widths, with the gaps between the columns
+abbrev pub line_width : List ℕ → ℕ
+line_width [] = 0
+line_width (w ∷ ws) = w + (gap_width ws + line_width ws)
+
+-- a line of hyphens that is as wide as these lines
 abbrev pub rule_in : List ℕ → List ℕ
-rule_in [] = codes "\n"
-rule_in (w ∷ ws) = replicate w 45 ++ (rule_gap ws ++ rule_in ws)
+rule_in ws = replicate (line_width ws) 45 ++ codes "\n"

@@ -1,7 +1,7 @@
 -- The text of a sheet as CSV: records of one section, below the names of its columns.
 use Rattle.std.specs.{Prelude.{ℕ, List, [], ◌∷◌, map, decimal, unwrap_or}, List.flat_map}
 use Rattle.lc_sheet.specs.{ColumnWords.column_name, Sheets.{SectionModel, SheetModel}, Values.{ValueModel, missing, summed, blank, word}}
-use Rattle.lc_sheet.specs.{Values.{flag, flag_word, name, path, number, share, bar, difference}, declared.column.Column.Column}
+use Rattle.lc_sheet.specs.{Values.{flag, flag_word, name, path, number, share, bar, difference, growth}, declared.column.Column.Column}
 use Rattle.lc_text.specs.Names.{named}
 use Rattle.lc_formats.specs.CsvText.{record_text}
 
@@ -18,6 +18,7 @@ field_of (number n) = decimal n
 field_of (share part whole) = []
 field_of (bar part whole) = []
 field_of (difference old new) = []
+field_of (growth old new) = []
 
 -- the name of a column as a field
 abbrev pub header_field : List (List ℕ) → Column → List ℕ

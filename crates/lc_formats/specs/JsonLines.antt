@@ -2,7 +2,7 @@
 use Rattle.std.specs.Prelude.{ℕ, Bool, true, false, ◌&&◌, if◌then◌else◌, List, [], ◌∷◌, ◌++◌, codes, Option, Some, None}
 use Rattle.json.specs.Json.{Json, null, boolean, string}
 use Rattle.lc_sheet.specs.{ColumnWords.{column_word, compared_column}, Values.{ValueModel, missing, summed, blank, word, flag, name, path}}
-use Rattle.lc_sheet.specs.{Values.{number, share, bar, difference}, declared.column.Column.Column}
+use Rattle.lc_sheet.specs.{Values.{number, share, bar, difference, growth}, declared.column.Column.Column}
 use Rattle.lc_text.specs.Names.{named}
 use Rattle.lc_formats.specs.{JsonText.{Member, bytes_member, integer, object_with}, declared.json_sides.Part.Part}
 use Rattle.lc_formats.specs.declared.json_sides.Part.TheVariants.{Own, Old, New}
@@ -23,6 +23,7 @@ value_members n (number k) = (n, integer k) ∷ []
 value_members n (share part whole) = []
 value_members n (bar part whole) = []
 value_members n (difference old new) = []
+value_members n (growth old new) = []
 
 -- the members of the values of a line, one in each column; the columns of attributes have these names, here and below
 abbrev pub line_members : List (List ℕ) → List Column → List ValueModel → List Member

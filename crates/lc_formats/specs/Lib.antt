@@ -12,6 +12,7 @@ pub mod Layouts
 pub mod Blanks
 pub mod CellWords
 pub mod Shares
+pub mod BarCells
 pub mod Cells
 pub mod TableText
 pub mod PaddedText
@@ -20,6 +21,7 @@ pub mod MarkdownCells
 pub mod MarkdownText
 pub mod MarkdownLaws
 pub mod Texts
+pub mod Paths
 pub mod Readable
 pub mod CommaLaws
 pub mod ShareLaws

@@ -1,7 +1,7 @@
 -- What laws require of the values of a sheet: words are printable, and bytes are below 256.
 use Rattle.std.specs.{Prelude.{◌≡◌, ◌<◌, ℕ, ◌&&◌, nat_lt, Bool, true, false, List, ◌∷◌, ◌++◌, map, ⊤}, List.{All, AllZip, list_all}}
 use Rattle.lc_sheet.specs.{AttributeColumns.heading_of, ColumnWords.side_of, Sheets.{SectionModel, SheetModel}}
-use Rattle.lc_sheet.specs.Values.{ValueModel, missing, summed, blank, word, flag, name, path, number, share, bar, difference}
+use Rattle.lc_sheet.specs.Values.{ValueModel, missing, summed, blank, word, flag, name, path, number, share, bar, difference, growth}
 use Rattle.lc_sheet.specs.declared.column.{Column.Column, Side.{Side, TheVariants.{Left, Right, End}}}
 use Rattle.lc_text.specs.Visible.{visible_bytes}
 use Rattle.lc_formats.specs.{Blanks.ends_in_blank, Layouts.{has_no_end, is_open}}
@@ -36,6 +36,7 @@ IsReadable side (number n) = ⊤
 IsReadable side (share part whole) = ⊤
 IsReadable side (bar part whole) = ⊤
 IsReadable side (difference old new) = ⊤
+IsReadable side (growth old new) = ⊤
 
 -- the values of a line: one in each column
 abbrev pub AreReadable : List Column → List ValueModel → Type 0
@@ -60,6 +61,7 @@ IsNumeral (number n) = ⊤
 IsNumeral (share part whole) = ⊤
 IsNumeral (bar part whole) = ⊤
 IsNumeral (difference old new) = ⊤
+IsNumeral (growth old new) = ⊤
 
 -- after its keys, a line has a number, and then only values of this kind
 abbrev pub EndsInNumbers : List ValueModel → Type 0

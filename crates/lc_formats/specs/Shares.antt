@@ -21,3 +21,7 @@ last_block eighths = if eighths == 0 then [] else encode_utf8 (0x2590 - eighths)
 -- a bar of this many eighths of a cell
 abbrev pub bar : ℕ → List ℕ
 bar eighths = blocks (eighths / 8) ++ last_block (eighths % 8)
+
+-- how many cells the bar of a whole has in a text that is not narrowed
+abbrev pub full_bar : ℕ
+full_bar = 20

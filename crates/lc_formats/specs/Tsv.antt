@@ -2,7 +2,7 @@
 -- the errors.
 use Rattle.std.specs.{Prelude.{ℕ, List, [], ◌∷◌, ◌++◌, false, map, codes, decimal, Option, Some, None}, List.flat_map}
 use Rattle.lc_sheet.specs.{ColumnWords.column_name, Sheets.{SectionModel, SheetModel}, Values.{ValueModel, missing, summed, blank, word}}
-use Rattle.lc_sheet.specs.{Values.{flag, flag_word, name, path, number, share, bar, difference}, declared.column.Column.Column}
+use Rattle.lc_sheet.specs.{Values.{flag, flag_word, name, path, number, share, bar, difference, growth}, declared.column.Column.Column}
 use Rattle.lc_text.specs.{Escape.{escape_bytes, escape_path}, Names.named}
 use Rattle.lc_formats.specs.TableText.{shown_lines}
 
@@ -19,6 +19,7 @@ field_of (number n) = decimal n
 field_of (share part whole) = []
 field_of (bar part whole) = []
 field_of (difference old new) = []
+field_of (growth old new) = []
 
 -- a line of fields with tabs between them, and a line feed at its end
 abbrev pub line_with : List (List ℕ) → List ℕ

@@ -3,17 +3,21 @@
 ghost use Rattle.std.specs.Prelude.{◌≡◌, ◌<◌, ◌++◌, ◌∷◌, [], IfOk, OnOk, replicate, string_bytes};
 ghost use Rattle.lc_formats.specs.Cells.{cell_at, cell_model, cell_of, cells_of, heading_cell, heading_cells, line_cells};
 ghost use Rattle.lc_formats.specs.Columns.{blanks_before, is_shown, text_before, width_at};
+ghost use Rattle.lc_formats.specs.Shares.{full_bar};
 ghost use Rattle.lc_sheet.specs.Sheets.{line_of};
 ghost use Rattle.lc_sheet.specs.Values.{value_model};
 
 use crate::cell_text::{make_value, make_wide, push_value};
+use crate::shares::FULL_BAR;
 use lc_sheet::{AttributeColumn, Column, Form, Lines, Side, Value};
 use std::alloc::AllocError;
 
-/// A cell of a line: a value, and the side of its column at which the value is aligned.
+/// A cell of a line: a value, the side of its column at which the value is aligned, and how many cells of a terminal the bar of a whole
+/// has.
 #[derive(Clone, Copy)]
 pub(crate) struct Cell<'a> {
     side: Side,
+    bar: u8,
     value: Value<'a>,
 }
 
@@ -44,27 +48,29 @@ fn push_blanks(text: &mut String, count: usize, others: &[Cell<'_>]) -> Result<(
 impl<'a> Cell<'a> {
     /// Makes a cell with a value that is aligned at this side.
     pub(crate) fn new(side: Side, value: Value<'a>) -> Cell<'a>
-        ensures { cell_model result ≡ cell_at side (value_model value.entry) }
+        ensures { cell_model result ≡ cell_at full_bar side (value_model value.entry) }
     {
-        Cell { side, value }
+        Cell {
+            side,
+            bar: FULL_BAR,
+            value,
+        }
     }
 
     /// Makes the cell of the heading of a column.
     pub(crate) fn heading(attributes: &'a [AttributeColumn], column: Column) -> Cell<'a>
         ensures { cell_model result ≡ heading_cell attributes.entry.now column }
     {
-        Cell {
-            side: column.side(),
-            value: Value::Name(column.heading(attributes)),
-        }
+        Cell::new(column.side(), Value::Name(column.heading(attributes)))
     }
 
-    /// Makes the cell of a line in a column.
-    pub(crate) fn of<L: Lines>(line: &'a L::Line, form: Form, column: Column) -> Cell<'a>
-        ensures { cell_model result ≡ cell_of column (L.value_in form line.entry.now column) }
+    /// Makes the cell of a line in a column, where the bar of a whole has `bar` cells of a terminal.
+    pub(crate) fn of<L: Lines>(line: &'a L::Line, form: Form, column: Column, bar: u8) -> Cell<'a>
+        ensures { cell_model result ≡ cell_of bar column (L.value_in form line.entry.now column) }
     {
         Cell {
             side: column.side(),
+            bar,
             value: L::value(line, form, column),
         }
     }
@@ -75,7 +81,7 @@ impl<'a> Cell<'a> {
     {
         match self.side {
             Side::End => Ok(0),
-            Side::Left | Side::Right => make_wide(made, &self.value),
+            Side::Left | Side::Right => make_wide(made, self.bar, &self.value),
         }
     }
 
@@ -86,7 +92,7 @@ impl<'a> Cell<'a> {
         match self.side {
             Side::End => Ok(true),
             Side::Left | Side::Right => {
-                make_value(made, &self.value)?;
+                make_value(made, self.bar, &self.value)?;
                 Ok(!made.as_str().is_empty())
             }
         }
@@ -104,14 +110,14 @@ impl<'a> Cell<'a> {
             ++ text_before (cells_of others.now) (cell_model self.now).side width (cell_model self.now).text) }
     {
         match self.side {
-            Side::End => push_value(text, &self.value),
+            Side::End => push_value(text, self.bar, &self.value),
             Side::Left => {
-                let own = make_wide(made, &self.value)?;
+                let own = make_wide(made, self.bar, &self.value)?;
                 text.push_str(made.as_str())?;
                 push_blanks(text, width.saturating_sub(own), others)
             }
             Side::Right => {
-                let own = make_wide(made, &self.value)?;
+                let own = make_wide(made, self.bar, &self.value)?;
                 push_copies(text, ' ', width.saturating_sub(own))?;
                 text.push_str(made.as_str())
             }
@@ -153,11 +159,12 @@ fn push_cell<'l, L: Lines>(
     line: &'l L::Line,
     form: Form,
     column: Column,
+    bar: u8,
 ) -> Result<(), AllocError>
     ensures { OnOk result (cells_of cells.new.items
-        ≡ cells_of cells.old.items ++ cell_of column (L.value_in form line.entry.now column) ∷ []) }
+        ≡ cells_of cells.old.items ++ cell_of bar column (L.value_in form line.entry.now column) ∷ []) }
 {
-    cells.push(Cell::of::<L>(line, form, column))?;
+    cells.push(Cell::of::<L>(line, form, column, bar))?;
     Ok(())
 }
 
@@ -166,28 +173,30 @@ fn push_cells<'l, L: Lines>(
     line: &'l L::Line,
     form: Form,
     columns: &[Column],
+    bar: u8,
 ) -> Result<(), AllocError>
     ensures { OnOk result (cells_of cells.new.items
-        ≡ cells_of cells.old.items ++ line_cells columns.now (line_of (L.value_in form) columns.now line.entry.now)) }
+        ≡ cells_of cells.old.items ++ line_cells bar columns.now (line_of (L.value_in form) columns.now line.entry.now)) }
 {
     let mut rest = columns;
     'columns: while let Some((column, others)) = rest.split_first() {
-        push_cell::<L>(cells, line, form, *column)?;
+        push_cell::<L>(cells, line, form, *column, bar)?;
         rest = others;
     }
     Ok(())
 }
 
-/// Sets the cells to the values of a line in each column.
+/// Sets the cells to the values of a line in each column, where the bar of a whole has `bar` cells of a terminal.
 pub(crate) fn set_cells<'l, L: Lines>(
     cells: &mut Vec<Cell<'l>>,
     line: &'l L::Line,
     form: Form,
     columns: &[Column],
+    bar: u8,
 ) -> Result<(), AllocError>
     ensures { OnOk result (cells_of cells.new.items
-        ≡ line_cells columns.now (line_of (L.value_in form) columns.now line.entry.now)) }
+        ≡ line_cells bar columns.now (line_of (L.value_in form) columns.now line.entry.now)) }
 {
     cells.clear();
-    push_cells::<L>(cells, line, form, columns)
+    push_cells::<L>(cells, line, form, columns, bar)
 }

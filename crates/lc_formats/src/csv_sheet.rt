@@ -28,7 +28,8 @@ fn push_value(fields: &mut Fields, value: Value<'_>) -> Result<(), AllocError>
         | Value::Blank
         | Value::Share { .. }
         | Value::Bar { .. }
-        | Value::Difference { .. } => fields.push(b""),
+        | Value::Difference { .. }
+        | Value::Growth { .. } => fields.push(b""),
     }
 }
 

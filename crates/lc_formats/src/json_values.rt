@@ -31,7 +31,8 @@ pub(crate) fn write_value(
         | Value::Blank
         | Value::Share { .. }
         | Value::Bar { .. }
-        | Value::Difference { .. } => {}
+        | Value::Difference { .. }
+        | Value::Growth { .. } => {}
     }
     Ok(())
 }

@@ -15,6 +15,7 @@
 //! - `table`: the text of a sheet in human-readable columns
 //! - `section_lines`, `widths`: the lines of a section in these columns, and the width of each column
 //! - `cells`, `cell_text`: the cells of a line in a human-readable table, and the texts of their values
+//! - `paths`: the paths of a sheet, for other programs
 //! - `numbers`: numbers as digits, with and without commas
 //! - `shares`: shares in per cent, and bars
 //! - `csv_laws`: the law that CSV reads back as the printed records
@@ -38,6 +39,7 @@ mod markdown_escape;
 mod markdown_laws;
 mod markdown_line;
 mod numbers;
+mod paths;
 mod section_lines;
 mod shares;
 mod sheet_text;
@@ -49,9 +51,11 @@ mod widths;
 pub use csv_laws::csv_reads_back;
 pub use markdown_laws::markdown_has_no_markup_of_names;
 pub use numbers::push_number;
+pub use paths::{PathsText, paths_text};
 pub use sheet_text::text;
 pub use table::table_text;
 pub use table_laws::{
-    bars_are_as_long_as_their_cells, changes_add_up_to_new_numbers, lines_end_without_blanks,
-    lines_of_a_part_are_as_wide, numbers_with_commas_read_back, shares_are_of_the_whole,
+    bars_are_as_long_as_their_cells, changes_add_up_to_new_numbers,
+    changes_in_per_cent_are_of_old_numbers, lines_end_without_blanks, lines_of_a_part_are_as_wide,
+    numbers_with_commas_read_back, shares_are_of_the_whole,
 };

@@ -9,6 +9,7 @@ ghost use Rattle.lc_sheet.specs.Values.{value_model};
 
 use crate::cell_text::make_value;
 use crate::markdown_escape::push_markdown;
+use crate::shares::FULL_BAR;
 use lc_sheet::{AttributeColumn, Column, Form, Lines, Side, Value};
 use std::alloc::AllocError;
 
@@ -48,7 +49,7 @@ fn push_value(
 ) -> Result<(), AllocError>
     ensures { OnOk result (text.new.items ≡ text.old.items ++ value_cell weight (value_model value.now)) }
 {
-    make_value(made, &value)?;
+    make_value(made, FULL_BAR, &value)?;
     text.extend_from_slice(b" ")?;
     push_weighted(text, weight, made.as_bytes())?;
     text.extend_from_slice(b" |")

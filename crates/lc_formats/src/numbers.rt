@@ -1,8 +1,9 @@
 //! Numbers in digits: plain for programs, and with commas for people.
 
 ghost use Rattle.std.specs.Prelude.{◌≡◌, ◌++◌, IsAscii, OnOk, decimal, string_bytes};
-ghost use Rattle.lc_formats.specs.CellWords.{change_word, comma, sign, with_commas};
+ghost use Rattle.lc_formats.specs.CellWords.{change_word, comma, growth_word, sign, with_commas};
 
+use crate::shares::push_share;
 use std::alloc::AllocError;
 
 /// Appends the digits of a number.
@@ -67,4 +68,18 @@ pub(crate) fn push_change(text: &mut String, old: u128, new: u128) -> Result<(),
 {
     text.push_str(sign(old, new))?;
     push_number(text, old.abs_diff(new))
+}
+
+/// Appends the change from one number to another in per cent of the old number, with its sign. If the old number is 0, appends `new`, or
+/// nothing if the new number is 0 too.
+///
+/// An error may mean that a change or a number is 2^111 or more.
+pub(crate) fn push_growth(text: &mut String, old: u128, new: u128) -> Result<(), AllocError>
+    ensures { OnOk result (string_bytes text.new ≡ string_bytes text.old ++ growth_word old new) }
+{
+    if old == 0 {
+        return text.push_str(if new == 0 { "" } else { "new" });
+    }
+    text.push_str(sign(old, new))?;
+    push_share(text, old.abs_diff(new), old)
 }

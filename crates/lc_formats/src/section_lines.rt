@@ -3,46 +3,50 @@
 ghost use Rattle.std.specs.Prelude.{◌≡◌, ◌∷◌, ◌++◌, ◌==◌, length, OnOk, string_bytes};
 ghost use Rattle.lc_formats.specs.Cells.{heading_cells, section_cells};
 ghost use Rattle.lc_formats.specs.Columns.{lines_in, listing_in, widened};
+ghost use Rattle.lc_formats.specs.Shares.{full_bar};
 ghost use Rattle.lc_formats.specs.TableText.{section_listing, shown_lines};
 
 use crate::cells::{Cell, set_cells, set_headings};
+use crate::shares::FULL_BAR;
 use crate::widths::Widths;
 use lc_sheet::{Lines, Section};
 use std::alloc::{AllocError, Global};
 
-/// Makes each column at least as wide as its cells in the lines of a section.
+/// Makes each column at least as wide as its cells in the lines of a section, with bars of at most `bar` cells.
 pub(crate) fn fit_lines<'a, L: Lines>(
     widths: &mut Widths,
+    bar: u8,
     section: &Section<'a, L>,
     cells: &mut Vec<Cell<'a>>,
     made: &mut String,
 ) -> Result<(), AllocError>
-    ensures { OnOk result (widths.new ≡ widened widths.old (section_cells section.now)) }
+    ensures { OnOk result (widths.new ≡ widened widths.old (section_cells bar section.now)) }
 {
     let (form, columns, lines) = section.parts();
     let mut rest = lines;
     'lines: while let Some((line, others)) = rest.split_first() {
-        set_cells::<L>(cells, line, form, columns)?;
+        set_cells::<L>(cells, line, form, columns, bar)?;
         widths.fit(cells, made)?;
         rest = others;
     }
     Ok(())
 }
 
-/// Appends the lines of a section, in columns of these widths.
+/// Appends the lines of a section, in columns of these widths, with bars of at most `bar` cells.
 pub(crate) fn push_lines<'a, L: Lines>(
     widths: &Widths,
+    bar: u8,
     section: &Section<'a, L>,
     cells: &mut Vec<Cell<'a>>,
     text: &mut String,
     made: &mut String,
 ) -> Result<(), AllocError>
-    ensures { OnOk result (string_bytes text.new ≡ string_bytes text.old ++ lines_in widths.now (section_cells section.now)) }
+    ensures { OnOk result (string_bytes text.new ≡ string_bytes text.old ++ lines_in widths.now (section_cells bar section.now)) }
 {
     let (form, columns, lines) = section.parts();
     let mut rest = lines;
     'lines: while let Some((line, others)) = rest.split_first() {
-        set_cells::<L>(cells, line, form, columns)?;
+        set_cells::<L>(cells, line, form, columns, bar)?;
         widths.push_line(cells, text, made)?;
         rest = others;
     }
@@ -58,15 +62,15 @@ fn push_some<'a, L: Lines>(
     made: &mut String,
 ) -> Result<(), AllocError>
     ensures { OnOk result (string_bytes text.new ≡ string_bytes text.old
-        ++ listing_in (widened widths.old (heading_cells section.now.attributes section.now.columns ∷ section_cells section.now))
-        (heading_cells section.now.attributes section.now.columns) (section_cells section.now)) }
+        ++ listing_in (widened widths.old (heading_cells section.now.attributes section.now.columns ∷ section_cells full_bar section.now))
+        (heading_cells section.now.attributes section.now.columns) (section_cells full_bar section.now)) }
 {
     set_headings(cells, section.attributes(), section.columns())?;
     widths.fit(cells, made)?;
-    fit_lines(widths, section, cells, made)?;
+    fit_lines(widths, FULL_BAR, section, cells, made)?;
     set_headings(cells, section.attributes(), section.columns())?;
     widths.push_line(cells, text, made)?;
-    push_lines(widths, section, cells, text, made)?;
+    push_lines(widths, FULL_BAR, section, cells, text, made)?;
     text.push_str("\n")?;
     Ok(())
 }

@@ -8,8 +8,8 @@ use std::alloc::AllocError;
 /// The number of parts of a whole in which shares are printed: tenths of a per cent.
 const SHARE_PARTS: u16 = 1_000;
 
-/// The number of parts of the longest bar: eighths of 20 cells.
-const BAR_PARTS: u16 = 160;
+/// The number of cells of the longest bar in a text that is not narrowed.
+pub(crate) const FULL_BAR: u8 = 20;
 
 /// Divides `whole` into `count` equal parts, and returns how many of these `part` is, rounded half up. Returns 0 if `whole` is 0.
 ///
@@ -87,10 +87,15 @@ pub(crate) fn push_share(text: &mut String, part: u128, whole: u128) -> Result<(
     push_tenths(text, tenths)
 }
 
-/// Appends a bar for a part of a whole. The bar of the whole has 20 cells.
-pub(crate) fn push_bar(text: &mut String, part: u128, whole: u128) -> Result<(), AllocError>
-    ensures { OnOk result (string_bytes text.new ≡ string_bytes text.old ++ bar (rounded_parts 160 part whole)) }
+/// Appends a bar for a part of a whole. The bar of the whole has this many cells.
+pub(crate) fn push_bar(
+    text: &mut String,
+    cells: u8,
+    part: u128,
+    whole: u128,
+) -> Result<(), AllocError>
+    ensures { OnOk result (string_bytes text.new ≡ string_bytes text.old ++ bar (rounded_parts (8 * cells) part whole)) }
 {
-    let eighths = rounded_parts(BAR_PARTS, part, whole)?;
+    let eighths = rounded_parts(8 * u16::from(cells), part, whole)?;
     push_eighths(text, eighths)
 }

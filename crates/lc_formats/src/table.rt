@@ -2,42 +2,67 @@
 
 ghost use Rattle.std.specs.Prelude.{◌≡◌, ◌++◌, [], ◌∷◌, IfOk, OnOk, string_bytes};
 ghost use Rattle.lc_formats.specs.Cells.{cells_of};
-ghost use Rattle.lc_formats.specs.Columns.{lines_in, widened, widths_of};
-ghost use Rattle.lc_formats.specs.TableText.{count_cells, counts_below, counts_of, list_listing, row_lines, summary_of, table_of};
+ghost use Rattle.lc_formats.specs.Columns.{lines_in, widths_of};
+ghost use Rattle.lc_formats.specs.BarCells.{ends_in_bars};
+ghost use Rattle.lc_formats.specs.TableText.{count_cells, counts_below, counts_of, list_listing, summary_bar, summary_of, summary_widths};
+ghost use Rattle.lc_formats.specs.TableText.{table_of};
 
 use crate::cells::{Cell, set_headings};
 use crate::section_lines::{fit_lines, push_lines, push_listing, shown_lines};
+use crate::shares::FULL_BAR;
 use crate::widths::Widths;
-use lc_sheet::{Lines, Section, Sheet, Side, Value};
+use lc_sheet::{Column, Lines, Section, Sheet, Side, Value};
 use std::alloc::{AllocError, Global};
 
-fn fit_rows<'a, R: Lines, T: Lines>(
-    widths: &mut Widths,
+/// Returns the widths of the columns of rows, with bars of at most `bar` cells.
+fn summary_widths<'a, R: Lines, T: Lines>(
+    alloc: Global,
+    bar: u8,
     rows: &Section<'a, R>,
     others: &Section<'a, T>,
-    cells: &mut Vec<Cell<'a>>,
+    totals: &Section<'a, T>,
     made: &mut String,
-) -> Result<(), AllocError>
-    ensures { OnOk result (widths.new ≡ widened widths.old (row_lines rows.now others.now)) }
+) -> Result<Widths, AllocError>
+    ensures { IfOk result (λ widths. widths ≡ summary_widths bar rows.now others.now totals.now) }
 {
-    fit_lines(widths, rows, cells, made)?;
-    fit_lines(widths, others, cells, made)?;
-    Ok(())
+    let mut cells = Vec::new(alloc);
+    let mut widths = Widths::new(alloc);
+    set_headings(&mut cells, rows.attributes(), rows.columns())?;
+    widths.fit(&cells, made)?;
+    fit_lines(&mut widths, bar, rows, &mut cells, made)?;
+    fit_lines(&mut widths, bar, others, &mut cells, made)?;
+    fit_lines(&mut widths, bar, totals, &mut cells, made)?;
+    Ok(widths)
 }
 
-fn push_rows<'a, R: Lines, T: Lines>(
-    widths: &Widths,
+fn ends_in_bars(columns: &[Column]) -> bool
+    ensures { result ≡ ends_in_bars columns.now }
+{
+    matches!(columns.last(), Some(Column::Bar))
+}
+
+/// Returns how many cells the longest bar has, and the widths of the columns of rows.
+fn fit_summary<'a, R: Lines, T: Lines>(
+    alloc: Global,
     rows: &Section<'a, R>,
     others: &Section<'a, T>,
-    cells: &mut Vec<Cell<'a>>,
-    text: &mut String,
+    totals: &Section<'a, T>,
     made: &mut String,
-) -> Result<(), AllocError>
-    ensures { OnOk result (string_bytes text.new ≡ string_bytes text.old ++ lines_in widths.now (row_lines rows.now others.now)) }
+) -> Result<(u8, Widths), AllocError>
+    ensures bar { IfOk result (λ fitted. fitted.0 ≡ summary_bar rows.now others.now totals.now) }
+    ensures widths { IfOk result (λ fitted. fitted.1 ≡ summary_widths fitted.0 rows.now others.now totals.now) }
 {
-    push_lines(widths, rows, cells, text, made)?;
-    push_lines(widths, others, cells, text, made)?;
-    Ok(())
+    let widths = summary_widths(alloc, FULL_BAR, rows, others, totals, made)?;
+    if !ends_in_bars(rows.columns()) {
+        return Ok((FULL_BAR, widths));
+    }
+    let bar = widths.bar_cells();
+    if bar == FULL_BAR {
+        return Ok((FULL_BAR, widths));
+    }
+    // The lines are wider than a terminal. Only the width of the bars changes, but measuring all cells again is simple, and rare.
+    let narrow = summary_widths(alloc, bar, rows, others, totals, made)?;
+    Ok((bar, narrow))
 }
 
 /// Appends the headings of the rows, the rows, and the sums over them.
@@ -51,18 +76,15 @@ fn push_summary<'a, R: Lines, T: Lines>(
 ) -> Result<(), AllocError>
     ensures { OnOk result (string_bytes text.new ≡ string_bytes text.old ++ summary_of rows.now others.now totals.now) }
 {
+    let (bar, widths) = fit_summary(alloc, rows, others, totals, made)?;
     let mut cells = Vec::new(alloc);
-    let mut widths = Widths::new(alloc);
-    set_headings(&mut cells, rows.attributes(), rows.columns())?;
-    widths.fit(&cells, made)?;
-    fit_rows(&mut widths, rows, others, &mut cells, made)?;
-    fit_lines(&mut widths, totals, &mut cells, made)?;
     set_headings(&mut cells, rows.attributes(), rows.columns())?;
     widths.push_line(&cells, text, made)?;
-    widths.push_rule(text)?;
-    push_rows(&widths, rows, others, &mut cells, text, made)?;
-    widths.push_rule(text)?;
-    push_lines(&widths, totals, &mut cells, text, made)?;
+    widths.push_rule(bar, text)?;
+    push_lines(&widths, bar, rows, &mut cells, text, made)?;
+    push_lines(&widths, bar, others, &mut cells, text, made)?;
+    widths.push_rule(bar, text)?;
+    push_lines(&widths, bar, totals, &mut cells, text, made)?;
     Ok(())
 }
 
@@ -161,6 +183,9 @@ fn push_list<L: Lines>(
 ///
 /// The lists of files, of skipped entries and of errors come first. The rows, the sums over the rows and the number of directories come
 /// last, because a terminal shows the end of a long text. Paths are escaped as [`push_visible`](lc_text::push_visible) escapes them.
+///
+/// Bars in the last column of rows have at most 20 cells. They are shorter in a table that would be wider than 80 columns, and the column is
+/// dropped if there is no room for 5 cells. Names and paths are never cut.
 pub fn table_text<R: Lines, T: Lines, F: Lines, S: Lines, E: Lines>(
     alloc: Global,
     sheet: &Sheet<'_, R, T, F, S, E>,

@@ -1,6 +1,6 @@
 //! Laws about text that is printed in human-readable columns. Each law is a theorem, which is the contract of a function that does nothing.
 
-ghost use Rattle.lc_formats.specs.ChangeLaws.{ChangeLaw, NoChangeLaw};
+ghost use Rattle.lc_formats.specs.ChangeLaws.{ChangeLaw, GrowthLaw, NoChangeLaw};
 ghost use Rattle.lc_formats.specs.CommaLaws.{CommasLaw};
 ghost use Rattle.lc_formats.specs.ShareLaws.{BarLengthLaw, NearestLaw, PartsLaw, WholeLaw};
 ghost use Rattle.lc_formats.specs.WidthLaws.{CountsWidthLaw, LineEndsLaw, ListingWidthLaw, SummaryWidthLaw};
@@ -47,4 +47,10 @@ pub fn bars_are_as_long_as_their_cells()
 pub fn changes_add_up_to_new_numbers()
     ensures change { ChangeLaw }
     ensures none { NoChangeLaw }
+{}
+
+/// The law that the change of a number in per cent of the old number has the sign of the change, and that its size is rounded half up to
+/// tenths of a per cent. The law requires an old number above 0.
+pub fn changes_in_per_cent_are_of_old_numbers()
+    ensures { GrowthLaw }
 {}

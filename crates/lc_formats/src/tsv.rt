@@ -30,7 +30,11 @@ fn push_value(text: &mut Vec<u8>, value: Value<'_>) -> Result<(), AllocError>
         Value::Name(name) => push_name(text, name),
         Value::Path(path) => push_path(text, path),
         Value::Number(number) => push_digits(text, number),
-        Value::Blank | Value::Share { .. } | Value::Bar { .. } | Value::Difference { .. } => Ok(()),
+        Value::Blank
+        | Value::Share { .. }
+        | Value::Bar { .. }
+        | Value::Difference { .. }
+        | Value::Growth { .. } => Ok(()),
     }
 }
 

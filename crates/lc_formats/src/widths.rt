@@ -1,11 +1,13 @@
 //! The widths of columns. Each padded column is as wide as its widest cell.
 
-ghost use Rattle.std.specs.Prelude.{◌≡◌, ◌≤◌, ◌++◌, [], length, slice_index, IfOk, OnOk, string_bytes};
+ghost use Rattle.std.specs.Prelude.{◌≡◌, ◌≤◌, ◌++◌, ◌-◌, [], length, replicate, slice_index, IfOk, OnOk, string_bytes};
+ghost use Rattle.lc_formats.specs.BarCells.{bar_cells, but_last, room_after, ruled};
 ghost use Rattle.lc_formats.specs.Cells.{cells_of};
-ghost use Rattle.lc_formats.specs.Columns.{cell_widths, gap, line_in, rule_gap, rule_in, shown_cells, wider};
+ghost use Rattle.lc_formats.specs.Columns.{cell_widths, gap, gap_width, line_in, line_width, rule_in, shown_cells, wider};
 ghost use Rattle.lc_formats.specs.Widening.{with_width};
 
 use crate::cells::{Cell, push_copies};
+use crate::shares::FULL_BAR;
 use std::alloc::{AllocError, Global};
 use std::marker::Model;
 
@@ -50,14 +52,33 @@ fn push_gap(text: &mut String, others: &[Cell<'_>]) -> Result<(), AllocError>
     }
 }
 
-fn push_rule_gap(text: &mut String, others: &[usize]) -> Result<(), AllocError>
-    ensures { OnOk result (string_bytes text.new ≡ string_bytes text.old ++ rule_gap others.now) }
+/// Returns the width of the gap before these columns.
+fn gap_width(others: &[usize]) -> usize
+    ensures { result ≡ gap_width others.now }
 {
-    if others.is_empty() {
-        Ok(())
-    } else {
-        text.push_str("--")
+    if others.is_empty() { 0 } else { 2 }
+}
+
+/// Returns the widths of all columns but the last.
+fn but_last(widths: &[usize]) -> &[usize]
+    ensures { result.now ≡ but_last widths.entry.now }
+{
+    &widths[..widths.len().saturating_sub(1)]
+}
+
+/// Returns how many of the 80 columns of a terminal are free after columns of these widths and the gap behind them.
+fn room_after(widths: &[usize]) -> usize
+    ensures { result ≡ room_after widths.now }
+{
+    let mut room: usize = 78;
+    let mut rest = widths;
+    'widths: while let Some((width, others)) = rest.split_first() {
+        room = room
+            .saturating_sub(*width)
+            .saturating_sub(gap_width(others));
+        rest = others;
     }
+    room
 }
 
 impl Widths {
@@ -119,13 +140,35 @@ impl Widths {
         text.push_str("\n")
     }
 
-    pub(crate) fn push_rule(&self, text: &mut String) -> Result<(), AllocError>
-        ensures { OnOk result (string_bytes text.new ≡ string_bytes text.old ++ rule_in self.now) }
+    /// Returns how many cells the longest bar has in the last column, so that lines fit a terminal of 80 columns: at most 20, and none if
+    /// there is no room for 5.
+    pub(crate) fn bar_cells(&self) -> u8
+        ensures { result ≡ bar_cells self.now }
     {
-        let mut widths = self.of_columns.as_slice();
+        let room = room_after(but_last(&self.of_columns));
+        if room < 5 {
+            0
+        } else {
+            room.min(usize::from(FULL_BAR)) as u8
+        }
+    }
+
+    /// Returns the widths of the columns below which rules are drawn: not of the last column, of bars, if bars have no cells.
+    fn ruled(&self, bar: u8) -> &[usize]
+        ensures { result.now ≡ ruled bar self.now }
+    {
+        let widths = self.of_columns.as_slice();
+        if bar == 0 { but_last(widths) } else { widths }
+    }
+
+    /// Appends a line of hyphens.
+    pub(crate) fn push_rule(&self, bar: u8, text: &mut String) -> Result<(), AllocError>
+        ensures { OnOk result (string_bytes text.new ≡ string_bytes text.old ++ rule_in (ruled bar self.now)) }
+    {
+        let mut widths = self.ruled(bar);
         'widths: while let Some((width, others)) = widths.split_first() {
             push_copies(text, '-', *width)?;
-            push_rule_gap(text, others)?;
+            push_copies(text, '-', gap_width(others))?;
             widths = others;
         }
         text.push_str("\n")

@@ -1,6 +1,6 @@
 -- The values that a sample, a line for tests, has in each column.
 use Rattle.std.specs.Prelude.{ℕ, Option, Some, None}
-use Rattle.lc_sheet.specs.Values.{ValueModel, missing, summed, blank, word, path, number, difference}
+use Rattle.lc_sheet.specs.Values.{ValueModel, missing, summed, blank, word, path, number, difference, growth}
 use Rattle.lc_sheet.specs.declared.column.{Column.Column, Compared.Compared, Number.{Number, TheVariants.{Files, Lines, Blank, Bytes}}}
 use Rattle.lc_sheet.specs.declared.{form.Form.Form, key.Key.TheVariants.{Ext, Text, Eol}}
 use Rattle.lc_formats_tests.specs.declared.samples.{Sample.Sample, Version.Version}
@@ -37,4 +37,5 @@ sample_value form s (column.Old c) = compared_of c s.old
 sample_value form s (column.New c) = compared_of c s.new
 sample_value form s (column.Number n) = number (number_of n s.new)
 sample_value form s (column.Difference n) = difference (number_of n s.old) (number_of n s.new)
+sample_value form s (column.Growth n) = growth (number_of n s.old) (number_of n s.new)
 sample_value form s other = blank

@@ -100,6 +100,10 @@ impl Lines for Samples {
                 old: number_of(number, line.old),
                 new: number_of(number, line.new),
             },
+            Column::Growth(number) => Value::Growth {
+                old: number_of(number, line.old),
+                new: number_of(number, line.new),
+            },
             _ => Value::Blank,
         }
     }

@@ -3,6 +3,7 @@
 
 mod asking;
 mod attributes;
+mod bars;
 mod cuts;
 mod directories;
 mod failing_calls;

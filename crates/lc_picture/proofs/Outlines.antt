@@ -76,6 +76,7 @@ value_shows (value.number n) = refl
 value_shows (value.share part whole) = refl
 value_shows (value.bar part whole) = refl
 value_shows (value.difference old new) = refl
+value_shows (value.growth old new) = refl
 
 values_show : (vs : List ValueModel) → filter is_shown (cells_in vs) ≡ shown_of_line vs
 values_show [] = refl

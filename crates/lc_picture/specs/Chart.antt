@@ -37,6 +37,7 @@ cell (value.number n) = number_cell n
 cell (value.share part whole) = share_cell part whole
 cell (value.bar part whole) = bar_cell part whole
 cell (value.difference old new) = empty_cell
+cell (value.growth old new) = empty_cell
 
 abbrev pub cells_in : List ValueModel → List Piece
 cells_in values = flat_map cell values

@@ -83,6 +83,7 @@ shown_of_value (value.number n) = count n ∷ []
 shown_of_value (value.share part whole) = percent part whole ∷ []
 shown_of_value (value.bar part whole) = []
 shown_of_value (value.difference old new) = []
+shown_of_value (value.growth old new) = []
 
 abbrev pub shown_of_line : List ValueModel → List Piece
 shown_of_line values = flat_map shown_of_value values

@@ -91,7 +91,9 @@ fn push_value(text: &mut Vec<u8>, value: Value<'_>, made: &mut String) -> Result
         Value::Number(n) => push_number_cell(text, n, made),
         Value::Share { part, whole } => push_share_cell(text, part, whole),
         Value::Bar { part, whole } => push_bar_cell(text, part, whole),
-        Value::Summed | Value::Blank | Value::Difference { .. } => push_empty_cell(text),
+        Value::Summed | Value::Blank | Value::Difference { .. } | Value::Growth { .. } => {
+            push_empty_cell(text)
+        }
     }
 }
 

@@ -33,7 +33,7 @@ pub(super) struct Case<'a> {
     pub(super) text: &'a [u8],
 }
 
-const FORM: Form = Form {
+pub(super) const FORM: Form = Form {
     by: Columns {
         ext: true,
         ..Columns::NONE
@@ -105,7 +105,7 @@ fn file(file: &File) -> Sample {
     }
 }
 
-fn rows(alloc: Global, all: &[Row]) -> Result<Vec<Sample>, AllocError> {
+pub(super) fn rows(alloc: Global, all: &[Row]) -> Result<Vec<Sample>, AllocError> {
     let mut samples = Vec::new(alloc);
     for one in all {
         samples.push(row(one))?;
@@ -119,6 +119,26 @@ fn files(alloc: Global, all: &[File]) -> Result<Vec<Sample>, AllocError> {
         samples.push(file(one))?;
     }
     Ok(samples)
+}
+
+/// Makes a sheet of rows and of the total in these columns.
+pub(super) fn sheet_of<'a>(
+    columns: &'a [Column],
+    rows: &'a [Sample],
+    total: &'a [Sample],
+) -> Sheet<'a, Samples, Samples, Samples, Samples, Samples> {
+    Sheet {
+        rows: Section::new(FORM, columns, rows),
+        others: Section::new(FORM, columns, &[]),
+        totals: Section::new(FORM, columns, total),
+        compares: false,
+        some_binary: false,
+        directories: None,
+        entries: None,
+        files: None,
+        skipped: None,
+        faults: None,
+    }
 }
 
 /// Returns the columns that a comparison has in a format: of rows, of sums and of files.

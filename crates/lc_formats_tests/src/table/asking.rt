@@ -12,6 +12,7 @@ use lc_sheet::{Columns, Format, Output, ReportOptions, TableOptions};
 use lc_tests::Sketch;
 use lc_tests::trees::BytewiseTree;
 use lc_tests::writers::{Narrow, WhenFull};
+use lc_text::PathEnd;
 use lc_tree::{MemTree, Tree};
 use lc_walk::{FaultLine, Options, ReportLists, Row, WalkFault, walk_on};
 use std::alloc::{AllocError, Global};
@@ -139,6 +140,7 @@ pub(super) fn showing_all(table: TableOptions) -> ReportOptions<'static>
         table,
         conditions: &[],
         attributes: &[],
+        end: PathEnd::LineFeed,
     }
 }
 
@@ -173,8 +175,8 @@ pub(super) fn answer_of<R: Threads + Wait + Sync + AllocGlobal, T: Tree>(
     };
     let options = options_of(&filters, asked, threads, max_dirs);
     let shown = showing_all(listing(options.lists));
-    let report = run(rt, rt.alloc(), tree, &options, shown, out)?;
-    Ok(outcome_of(&report.faults))
+    let printed = run(rt, rt.alloc(), tree, &options, shown, out)?;
+    Ok(outcome_of(&printed.report.faults))
 }
 
 /// Like `answer_of`, but walks the tree with a board of type `B`, and then writes the table.

@@ -243,8 +243,8 @@ pub(super) fn has_parts(
     if options.by.are_of_files() && !report.lists.files {
         return Ok(false);
     }
-    let text = report_text(alloc, b".", &mut report, options, &[])?;
-    Ok(is_made_of(&text, parts))
+    let made = report_text(alloc, &mut report, showing_all(options))?;
+    Ok(is_made_of(&made.text, parts))
 }
 
 /// Returns whether the table of the case's report is this header, followed by the lines of the case.
@@ -305,12 +305,15 @@ fn stops_there(
 ) -> Result<bool, AllocError> {
     let mut report = report_of(alloc, case)?;
     let mut out = Narrow::new(alloc, step, room, when_full)?;
-    let answer = table(alloc, &mut report, showing_all(TSV), &mut out);
+    let answer = match table(alloc, &mut report, showing_all(TSV), &mut out) {
+        Ok(refused) => Ok(refused.is_empty()),
+        Err(fault) => Err(fault),
+    };
     if answer == Err(PrintFault::Memory) && out.taken.is_empty() {
         return Err(AllocError);
     }
     let expected = if room == text.len() {
-        Ok(())
+        Ok(true)
     } else {
         Err(PrintFault::Write)
     };
@@ -335,9 +338,9 @@ fn compare_writes<R: AllocGlobal + Abort>(
 #[test]
 fn a_table_stops_at_every_place(rt: HostRuntime) -> Result<(), Fail> {
     let mut report = report_of(rt.alloc(), &TOP_UNREAD)?;
-    let text = report_text(rt.alloc(), b".", &mut report, TSV, &[])?;
+    let made = report_text(rt.alloc(), &mut report, showing_all(TSV))?;
     for writer in WRITERS {
-        compare_writes(&rt, &TOP_UNREAD, &text, *writer)?;
+        compare_writes(&rt, &TOP_UNREAD, &made.text, *writer)?;
     }
     Ok(())
 }

@@ -5,8 +5,8 @@ use Rattle.lc_formats.proofs.section_lines.fit_lines.Given as goal
 
 abbrev pub invariant-lines : goal.invariant-lines
 invariant-lines g l =
-    widened l.widths (map (line_cells l.columns) (lines_of (g.L.Lines.value_in l.form) l.columns l.rest))
-    ≡ widened l.initial.widths (map (line_cells l.columns) (lines_of (g.L.Lines.value_in l.form) l.columns l.initial.rest))
+    widened l.widths (map (line_cells l.bar l.columns) (lines_of (g.L.Lines.value_in l.form) l.columns l.rest))
+    ≡ widened l.initial.widths (map (line_cells l.bar l.columns) (lines_of (g.L.Lines.value_in l.form) l.columns l.initial.rest))
 
 abbrev pub decreases-lines : goal.decreases-lines
 decreases-lines g l = length l.rest

@@ -5,9 +5,9 @@ use Rattle.lc_formats.proofs.section_lines.push_lines.Given as goal
 
 abbrev pub invariant-lines : goal.invariant-lines
 invariant-lines g l =
-    string_bytes l.text ++ lines_in l.widths (map (line_cells l.columns) (lines_of (g.L.Lines.value_in l.form) l.columns l.rest))
+    string_bytes l.text ++ lines_in l.widths (map (line_cells l.bar l.columns) (lines_of (g.L.Lines.value_in l.form) l.columns l.rest))
     ≡ string_bytes l.initial.text
-    ++ lines_in l.widths (map (line_cells l.columns) (lines_of (g.L.Lines.value_in l.form) l.columns l.initial.rest))
+    ++ lines_in l.widths (map (line_cells l.bar l.columns) (lines_of (g.L.Lines.value_in l.form) l.columns l.initial.rest))
 
 abbrev pub decreases-lines : goal.decreases-lines
 decreases-lines g l = length l.rest

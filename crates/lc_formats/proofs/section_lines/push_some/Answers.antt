@@ -1,5 +1,6 @@
 use Rattle.std.proofs.Common.{List, ◌++◌, ap, ap₂, ◌∙◌, string_bytes}
 use Rattle.lc_formats.specs.{Cells.{cells_of, heading_cells, section_cells}, Columns.{CellModel, cell_widths, line_in, wider}}
+use Rattle.lc_formats.specs.Shares.{full_bar}
 use Rattle.lc_formats.proofs.Widened.{some_listed}
 use Rattle.lc_formats.proofs.section_lines.push_some.Goals as goal
 
@@ -12,7 +13,8 @@ returns g c =
     let second = ap cells_of c.deref-2.ensures.value ∙ c.in_ok-set_headings-2.ensures
     ∙ ap₂ heading_cells c.attributes-2.ensures c.columns-2.ensures in
     some_listed initial (string_bytes c.push_line.new.text) (string_bytes c.push_lines.new.text) (string_bytes c.push_str.new.self)
-    c.args.widths.now c.fit.new.self c.fit_lines.new.widths (heading_cells section.attributes section.columns) (section_cells section)
+    c.args.widths.now c.fit.new.self c.fit_lines.new.widths (heading_cells section.attributes section.columns)
+    (section_cells full_bar section)
     (c.in_ok-fit.ensures ∙ ap (λ (cs : List CellModel). wider c.args.widths.now (cell_widths cs)) first)
     c.in_ok-fit_lines.ensures
     (c.in_ok-push_line.ensures ∙ ap (λ (cs : List CellModel). initial ++ line_in c.fit_lines.new.widths cs) second)
