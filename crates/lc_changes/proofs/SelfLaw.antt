@@ -173,12 +173,12 @@ self_law options attributes r c apart are =
       differ = are.is_differ ∙ (λ i. none_passes differs are.rows same i || list_any (is_changed options.by.attributes) (no_file i));
       rows = λ some. ap (λ s. s.rows.lines) are.is_sheet
           ∙ ap (λ rows. (comparison_of options attributes total rows are.listed).rows.lines) (none_shown some)
-          ∙ ap (λ rows. lines_of (changed_value (form_by options.format options.by)) (changed_columns options.format options.by) rows)
+          ∙ ap (λ rows. lines_of (changed_value (form_by options.format options.by)) (changed_columns options.format options.sort options.by) rows)
           (none_first options.top);
       others = λ some. ap (λ s. s.others.lines) are.is_sheet
           ∙ ap (λ rows. (comparison_of options attributes total rows are.listed).others.lines) (none_shown some)
           ∙ ap (λ rows. lines_of (changed_sums_value (form_by options.format options.by))
-          (changed_sums_columns options.format (changed_columns options.format options.by)) (other_sums rows)) (none_left options.top);
+          (changed_sums_columns options.format (changed_columns options.format options.sort options.by)) (other_sums rows)) (none_left options.top);
       files = subst has_no_line (sym (ap (λ s. s.files) are.is_sheet
           ∙ ap (λ files. (comparison_of options attributes total are.shown files).files) none_listed))
           (no_lines options.files attributes options.top (file_change_value (form_by options.format options.by))

@@ -1,22 +1,44 @@
 -- The columns that each section of a comparison has in each format.
-use Rattle.std.specs.{Prelude.{ℕ, List, [], ◌∷◌, ◌++◌, map, flat_map, is_some}, List.range_with_len}
-use Rattle.lc_changes.specs.declared.columns.TheConstants.{NUMBERS_BY_REPORT, NUMBERS_IN_TURN, NUMBERS_WITH_CHANGES}
-use Rattle.lc_changes.specs.declared.columns.TheConstants.{NEW_VALUES, OLD_VALUES, READ_FILES, VALUES_IN_TURN}
+use Rattle.std.specs.{Prelude.{ℕ, ◌==◌, Bool, List, [], ◌∷◌, ◌++◌, map, flat_map, Option, is_some, unwrap_or}, List.range_with_len}
+use Rattle.lc_changes.specs.declared.columns.TheConstants.{NEW_VALUES, NUMBERS_BY_REPORT, NUMBERS_IN_TURN, OLD_VALUES, READ_FILES}
+use Rattle.lc_changes.specs.declared.columns.TheConstants.{VALUES_IN_TURN}
 use Rattle.lc_rows.specs.SheetColumns.{column_if, keeps_columns, key_columns}
-use Rattle.lc_sheet.specs.declared.{column.{Column.Column, Compared.Compared}, key.Key.TheVariants.{Dir, Attribute, Ext}}
+use Rattle.lc_sheet.specs.declared.column.{Column.Column, Compared.Compared, Number.{Number, TheVariants.{Files, Lines, Blank, Bytes}}}
+use Rattle.lc_sheet.specs.declared.key.Key.TheVariants.{Dir, Attribute, Ext}
 use Rattle.lc_sheet.specs.declared.table_options.{Columns.Columns, Format.{Format, TheVariants.{Tsv, Json, Csv}}}
 use Rattle.lc_sheet.specs.declared.column.Column.TheVariants as column
 use Rattle.lc_sheet.specs.declared.column.Compared.TheVariants as compared
 
-abbrev pub changed_numbers : Format → List Column
-changed_numbers Tsv = NUMBERS_IN_TURN
-changed_numbers Csv = NUMBERS_IN_TURN
-changed_numbers Json = NUMBERS_BY_REPORT
-changed_numbers other = NUMBERS_WITH_CHANGES
+-- a number for each number of rows, another for each
+abbrev pub number_place : Number → ℕ
+number_place Files = 0
+number_place Lines = 1
+number_place Blank = 2
+number_place Bytes = 3
+
+abbrev pub are_one_number : Number → Number → Bool
+are_one_number a b = number_place a == number_place b
+
+-- a number of the new report, its change, and for one number its change in per cent
+abbrev pub with_change : Number → Number → List Column
+with_change percent n = column.New (compared.Number n) ∷ column.Difference n ∷ column_if (are_one_number n percent) (column.Growth n)
+
+abbrev pub with_changes : Number → List Column
+with_changes percent = with_change percent Files ++ (with_change percent Lines ++ (with_change percent Blank ++ with_change percent Bytes))
+
+-- the number whose change is also shown in per cent: the one that rows are sorted by, or else lines
+abbrev pub percent_number : Option Number → Number
+percent_number sort = unwrap_or sort Lines
+
+abbrev pub changed_numbers : Format → Option Number → List Column
+changed_numbers Tsv sort = NUMBERS_IN_TURN
+changed_numbers Csv sort = NUMBERS_IN_TURN
+changed_numbers Json sort = NUMBERS_BY_REPORT
+changed_numbers other sort = with_changes (percent_number sort)
 
 -- the columns of rows: their keys, and then the numbers
-abbrev pub changed_columns : Format → Columns → List Column
-changed_columns format by = key_columns (keeps_columns format) by ++ changed_numbers format
+abbrev pub changed_columns : Format → Option Number → Columns → List Column
+changed_columns format sort by = key_columns (keeps_columns format) by ++ changed_numbers format sort
 
 -- the columns of sums in a comparison whose rows have these columns
 abbrev pub changed_sums_columns : Format → List Column → List Column

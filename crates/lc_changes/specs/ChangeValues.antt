@@ -3,7 +3,7 @@ use Rattle.std.specs.Prelude.{ℕ, List, codes, Option, Some, None}
 use Rattle.lc_changes.specs.{Changes.ChangedRowModel, FileChanges.{FileChangeModel, either_file, side_number}}
 use Rattle.lc_level.specs.Level.{FileLineModel}
 use Rattle.lc_rows.specs.{Kinds.{NamedSumsModel, file_value, row_value, sums_value}, ShownRows.number_in}
-use Rattle.lc_sheet.specs.{ColumnWords.compared_column, Values.{ValueModel, missing, blank, word, number, difference}}
+use Rattle.lc_sheet.specs.{ColumnWords.compared_column, Values.{ValueModel, missing, blank, word, number, difference, growth}}
 use Rattle.lc_sheet.specs.declared.{column.{Column.Column, Compared.Compared}, form.Form.Form}
 use Rattle.lc_walk.specs.declared.tally.sums.Sums.{Sums}
 use Rattle.lc_sheet.specs.declared.column.Column.TheVariants as column
@@ -15,6 +15,7 @@ abbrev pub changed_value : Form → ChangedRowModel → Column → ValueModel
 changed_value form r (column.Old (compared.Number n)) = number (number_in n r.old_sums)
 changed_value form r (column.New (compared.Number n)) = number (number_in n r.new_row.sums)
 changed_value form r (column.Difference n) = difference (number_in n r.old_sums) (number_in n r.new_row.sums)
+changed_value form r (column.Growth n) = growth (number_in n r.old_sums) (number_in n r.new_row.sums)
 changed_value form r other = row_value form r.new_row other
 
 -- ---- sums
@@ -28,6 +29,7 @@ abbrev pub changed_sums_value : Form → ChangedSumsModel → Column → ValueMo
 changed_sums_value form s (column.Old (compared.Number n)) = number (number_in n s.old_sums)
 changed_sums_value form s (column.New (compared.Number n)) = number (number_in n s.new_sums.sums)
 changed_sums_value form s (column.Difference n) = difference (number_in n s.old_sums) (number_in n s.new_sums.sums)
+changed_sums_value form s (column.Growth n) = growth (number_in n s.old_sums) (number_in n s.new_sums.sums)
 changed_sums_value form s other = sums_value form s.new_sums other
 
 -- ---- files
@@ -52,4 +54,5 @@ file_change_value form c column.Change = word (change_word c.old_file c.new_file
 file_change_value form c (column.Old compared) = side_value form c.old_file compared
 file_change_value form c (column.New compared) = side_value form c.new_file compared
 file_change_value form c (column.Difference n) = difference (side_number n c.old_file) (side_number n c.new_file)
+file_change_value form c (column.Growth n) = growth (side_number n c.old_file) (side_number n c.new_file)
 file_change_value form c other = shared_value form (either_file c) other

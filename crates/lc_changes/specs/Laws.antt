@@ -6,7 +6,7 @@ use Rattle.lc_changes.specs.{Changes.sums_at, FileChanges.{FileChangeModel, AreF
 use Rattle.lc_changes.specs.declared.options.ChangeOptions.{ChangeOptions}
 use Rattle.lc_level.specs.Level.{FileLineModel}
 use Rattle.lc_rows.specs.{RowKeys.{RowKey, ShownRowModel, has_within, sums_of_shown}, ShownRows.{AreShown, parts_of}}
-use Rattle.lc_sheet.specs.{Conditions.number_of, Sheets.SectionModel, Values.{ValueModel, difference}}
+use Rattle.lc_sheet.specs.{Conditions.number_of, Sheets.SectionModel, Values.{ValueModel, difference, growth}}
 use Rattle.lc_sheet.specs.declared.{column.{Column.Column, Number.Number}, form.Form.Form, table_options.Columns.Columns}
 use Rattle.lc_tree.specs.ByteOrder.{AreApart}
 use Rattle.lc_walk.specs.declared.report.Report.{Report}
@@ -69,12 +69,13 @@ pub record OneComparisonLaw : Type 0 where
 
 -- ---- changes
 
--- the change of a number is from the number in the column of the old report to the number in the column of the new report; a missing number
--- counts as 0
-abbrev pub IsFromOldToNew : (Column → ValueModel) → Type 0
-IsFromOldToNew value = (n : Number)
-    → value (column.Difference n)
-    ≡ difference (number_of (value (column.Old (compared.Number n)))) (number_of (value (column.New (compared.Number n))))
+-- the change of a number, also in per cent, is from the number in the column of the old report to the number in the column of the new
+-- report; a missing number counts as 0
+pub record IsFromOldToNew (value : Column → ValueModel) : Type 0 where
+  pub change : (n : Number) → value (column.Difference n)
+      ≡ difference (number_of (value (column.Old (compared.Number n)))) (number_of (value (column.New (compared.Number n))))
+  pub percent : (n : Number) → value (column.Growth n)
+      ≡ growth (number_of (value (column.Old (compared.Number n)))) (number_of (value (column.New (compared.Number n))))
 
 -- changes are from old numbers to new numbers in each line of rows, of sums and of files
 pub record DifferencesLaw : Type 0 where

@@ -4,4 +4,5 @@ pub mod FileChanges
 pub mod ChangeColumns
 pub mod ChangeValues
 pub mod ChangeSheets
+pub mod KeptChanges
 pub mod Laws

@@ -2,7 +2,8 @@
 
 ghost use Rattle.std.specs.Prelude.{◌≡◌, ◌++◌, map, flat_map, IfOk, OnOk};
 ghost use Rattle.lc_changes.specs.ChangeColumns.{changed_columns, changed_numbers, changed_sums_columns, compared_attributes};
-ghost use Rattle.lc_changes.specs.ChangeColumns.{file_change_columns, in_turn, recorded_by_report, recorded_in_turn};
+ghost use Rattle.lc_changes.specs.ChangeColumns.{file_change_columns, in_turn, recorded_by_report, recorded_in_turn, with_change};
+ghost use Rattle.lc_changes.specs.ChangeColumns.{with_changes};
 ghost use Rattle.lc_sheet.specs.declared.column.Column.TheVariants.{New, Old};
 
 use lc_rows::{keeps_columns, push_if, push_keys};
@@ -31,18 +32,6 @@ const NUMBERS_BY_REPORT: [Column; 8] = [
     Column::New(Compared::Number(Number::Lines)),
     Column::New(Compared::Number(Number::Blank)),
     Column::New(Compared::Number(Number::Bytes)),
-];
-
-/// Each number of the new report, followed by its change.
-const NUMBERS_WITH_CHANGES: [Column; 8] = [
-    Column::New(Compared::Number(Number::Files)),
-    Column::Difference(Number::Files),
-    Column::New(Compared::Number(Number::Lines)),
-    Column::Difference(Number::Lines),
-    Column::New(Compared::Number(Number::Blank)),
-    Column::Difference(Number::Blank),
-    Column::New(Compared::Number(Number::Bytes)),
-    Column::Difference(Number::Bytes),
 ];
 
 /// Each value of a file in the old report, followed by the same value in the new report.
@@ -78,34 +67,67 @@ const NEW_VALUES: [Column; 5] = [
 ];
 
 /// The columns of files in a list for reading.
-const READ_FILES: [Column; 4] = [
+const READ_FILES: [Column; 6] = [
     Column::Change,
     Column::New(Compared::Number(Number::Lines)),
     Column::Difference(Number::Lines),
+    Column::New(Compared::Number(Number::Bytes)),
+    Column::Difference(Number::Bytes),
     Column::Path,
 ];
 
-fn changed_numbers(format: Format) -> &'static [Column]
-    ensures { result.now ≡ changed_numbers format }
+/// Adds the columns of a number of the new report and of its change. If `percent` is the same number, adds the change in per cent too.
+fn push_with_change(
+    columns: &mut Vec<Column>,
+    percent: Number,
+    number: Number,
+) -> Result<(), AllocError>
+    ensures { OnOk result (columns.new.items ≡ columns.old.items ++ with_change percent number) }
+{
+    let value = Compared::Number(number);
+    columns.extend_from_slice(&[Column::New(value), Column::Difference(number)])?;
+    push_if(columns, number == percent, Column::Growth(number))
+}
+
+/// Adds the columns of all numbers of the new report and of their changes. The change of one of them is also shown in per cent.
+fn push_with_changes(columns: &mut Vec<Column>, percent: Number) -> Result<(), AllocError>
+    ensures { OnOk result (columns.new.items ≡ columns.old.items ++ with_changes percent) }
+{
+    push_with_change(columns, percent, Number::Files)?;
+    push_with_change(columns, percent, Number::Lines)?;
+    push_with_change(columns, percent, Number::Blank)?;
+    push_with_change(columns, percent, Number::Bytes)
+}
+
+fn push_numbers(
+    columns: &mut Vec<Column>,
+    format: Format,
+    sort: Option<Number>,
+) -> Result<(), AllocError>
+    ensures { OnOk result (columns.new.items ≡ columns.old.items ++ changed_numbers format sort) }
 {
     match format {
-        Format::Tsv | Format::Csv => &NUMBERS_IN_TURN,
-        Format::Json => &NUMBERS_BY_REPORT,
-        Format::Table | Format::Markdown => &NUMBERS_WITH_CHANGES,
+        Format::Tsv | Format::Csv => columns.extend_from_slice(&NUMBERS_IN_TURN),
+        Format::Json => columns.extend_from_slice(&NUMBERS_BY_REPORT),
+        Format::Table | Format::Markdown => {
+            push_with_changes(columns, sort.unwrap_or(Number::Lines))
+        }
     }
 }
 
-/// Makes the columns of the rows of a comparison.
+/// Makes the columns of the rows of a comparison. For reading, the change of the number that rows are sorted by is also shown in per cent,
+/// or that of lines if rows are not sorted by a number.
 pub(crate) fn changed_columns(
     alloc: Global,
     format: Format,
+    sort: Option<Number>,
     by: Columns,
 ) -> Result<Vec<Column>, AllocError>
-    ensures { IfOk result (λ columns. columns.items ≡ changed_columns format by) }
+    ensures { IfOk result (λ columns. columns.items ≡ changed_columns format sort by) }
 {
     let mut columns = Vec::new(alloc);
     push_keys(&mut columns, keeps_columns(format), by)?;
-    columns.extend_from_slice(changed_numbers(format))?;
+    push_numbers(&mut columns, format, sort)?;
     Ok(columns)
 }
 

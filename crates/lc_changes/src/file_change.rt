@@ -4,10 +4,11 @@ ghost use Rattle.std.specs.Prelude.{◌≡◌, option_map};
 ghost use Rattle.lc_changes.specs.FileChanges.{are_same_counts, changed_path, compared_key, either_file, file_change};
 ghost use Rattle.lc_changes.specs.FileChanges.{is_changed, side_number};
 ghost use Rattle.lc_changes.specs.ChangeValues.{change_word};
+ghost use Rattle.lc_changes.specs.KeptChanges.{keeps_change};
 
 use crate::changed_row::distance;
 use lc_rows::{RowKeyRef, number_of, split_at_top};
-use lc_sheet::Number;
+use lc_sheet::{ChangeKinds, Number};
 use lc_walk::FileLine;
 use std::marker::Model;
 
@@ -93,6 +94,24 @@ impl<'a> FileChange<'a> {
             (Some(old), Some(new)) => !are_same_counts(attributes, old, new),
             (None, None) => false,
             _ => true,
+        }
+    }
+
+    /// Returns whether what became of the file from the old report to the new one is among these kinds. The first `attributes` attributes
+    /// are compared.
+    pub(crate) fn is_among(&self, kinds: ChangeKinds, attributes: u8) -> bool
+        ensures { result ≡ keeps_change kinds attributes self.now }
+    {
+        match (self.old_file, self.new_file) {
+            (None, _) => kinds.added,
+            (Some(_), None) => kinds.removed,
+            (Some(old), Some(new)) => {
+                if are_same_counts(attributes, old, new) {
+                    kinds.same
+                } else {
+                    kinds.changed
+                }
+            }
         }
     }
 

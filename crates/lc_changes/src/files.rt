@@ -82,7 +82,7 @@ fn paired_files<'s, 'a>(
 }
 
 /// Pairs the files of two reports by their paths, in the order of paths.
-fn compared_files<'a>(
+pub(crate) fn compared_files<'a>(
     alloc: Global,
     olds: &'a [FileLine],
     news: &'a [FileLine],

@@ -14,8 +14,8 @@ pub fn rows_of_a_comparison_are_those_of_tables()
     ensures { TablesLaw }
 {}
 
-/// The law that each shown change is the difference from the old report's number to the new report's number. This holds in each line,
-/// whether the line shows a row, sums or a file. If a report lacks a file, the file's numbers in that report are 0.
+/// The law that each shown change, also in per cent, is the change from the old report's number to the new report's number. This holds in
+/// each line, whether the line shows a row, sums or a file. If a report lacks a file, the file's numbers in that report are 0.
 pub fn old_numbers_and_changes_add_up_to_new_ones()
     ensures { DifferencesLaw }
 {}

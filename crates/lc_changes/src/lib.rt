@@ -7,6 +7,7 @@
 //! - `file_change`: the files that the two reports have at one path
 //! - `file_refs`: the files of one report, in the order of their paths
 //! - `files`: the files of both reports, paired by their paths
+//! - `kept_changes`: the parts of two reports whose files changed in given ways
 //! - `sorting`: the order of rows and of files
 //! - `sums`: the sums over the rows of a comparison
 //! - `kinds`: the value of a row, of a line of sums or of a file in each column
@@ -20,6 +21,7 @@ mod columns;
 mod file_change;
 mod file_refs;
 mod files;
+mod kept_changes;
 mod kinds;
 mod laws;
 mod options;
@@ -31,6 +33,7 @@ mod sums;
 
 pub use changed_row::ChangedRow;
 pub use file_change::FileChange;
+pub use kept_changes::keep_changes;
 pub use kinds::{ChangedSums, ChangedTotals, Changes, FileChanges};
 pub use laws::{
     a_report_does_not_differ_from_itself, old_numbers_and_changes_add_up_to_new_ones,

@@ -184,7 +184,7 @@ impl<'a> ShownChanges<'a> {
             format: options.format,
             form: form_by(options.format, options.by),
             attributes,
-            columns: changed_columns(alloc, options.format, options.by)?,
+            columns: changed_columns(alloc, options.format, options.sort, options.by)?,
             file_columns: file_change_columns(alloc, options.format, options.by)?,
             rows,
             others,

@@ -4,5 +4,6 @@
 mod attributes;
 mod files;
 mod formats;
+mod kept;
 mod reports;
 mod rows;

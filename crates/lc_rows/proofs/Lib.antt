@@ -19,3 +19,4 @@ pub mod SheetLawProofs
 pub mod SheetParts
 pub mod SheetFiles
 pub mod WalkedSheets
+mod Marks

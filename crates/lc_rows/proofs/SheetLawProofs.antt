@@ -62,6 +62,7 @@ is_its n column.Change e = cc
 is_its n (column.Old x) e = cc
 is_its n (column.New x) e = cc
 is_its n (column.Difference m) e = cc
+is_its n (column.Growth m) e = cc
 
 -- a line has in the column of a number what it has for that number
 at_column : (n : Number) (value : Column → ValueModel) (c : Column) (cs : List Column) (b : Bool) → is_number n c ≡ b

@@ -88,6 +88,7 @@ value_within form r part bar column.Change = tt
 value_within form r part bar (column.Old x) = tt
 value_within form r part bar (column.New x) = tt
 value_within form r part bar (column.Difference m) = tt
+value_within form r part bar (column.Growth m) = tt
 
 -- ---- rows
 

@@ -50,6 +50,19 @@ pub record IsPart (cs : List ConditionModel) (r part : Report) : Type 0 where
   pub faults : part.faults ≡ r.faults
   pub skipped : part.skipped ≡ r.skipped
 
+-- the part of a report that has only these files: its rows, totals and sums by class are those of the files, and all else stays
+pub record IsPartWith (fs : List FileLineModel) (r part : Report) : Type 0 where
+  pub files : part.files.items ≡ fs
+  pub rows : IsTally (map counted_line fs) part.rows.items
+  pub columns : part.columns ≡ r.columns
+  pub totals : part.totals ≡ sums_of_files (map counted_line fs)
+  pub classes : part.classes ≡ classes_of part.rows.items
+  pub directories : part.directories ≡ r.directories
+  pub entries : part.entries ≡ r.entries
+  pub lists : part.lists ≡ r.lists
+  pub faults : part.faults ≡ r.faults
+  pub skipped : part.skipped ≡ r.skipped
+
 -- the part of a report that meets some conditions; without conditions, the whole report
 abbrev pub IsKept : List ConditionModel → Report → Report → Type 0
 IsKept [] r part = part ≡ r

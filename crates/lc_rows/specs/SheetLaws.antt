@@ -1,7 +1,7 @@
 -- What is true of the sheet of a report, whatever its format.
 use Rattle.std.specs.{Prelude.{⊤, ◌≡◌, ◌≤◌, ℕ, ◌+◌, Bool, true, false, if◌then◌else◌, List, [], ◌∷◌, map, Some}, List.{All, sum_by}}
 use Rattle.lc_sheet.specs.{Sheets.{SectionModel, SheetModel}, Values.{ValueModel, missing, summed, blank, word, flag, name, path, number}}
-use Rattle.lc_sheet.specs.{Keys.are_of_files, Values.{share, bar, difference}}
+use Rattle.lc_sheet.specs.{Keys.are_of_files, Values.{share, bar, difference, growth}}
 use Rattle.lc_sheet.specs.declared.column.{Column.Column, Number.{Number, TheVariants.{Files, Lines, Blank, Bytes}}}
 use Rattle.lc_sheet.specs.declared.table_options.TableOptions.{TableOptions}
 use Rattle.lc_tree.specs.Trees.{Listings, Contents}
@@ -88,6 +88,7 @@ IsWithin (number n) = ⊤
 IsWithin (share part whole) = part ≤ whole
 IsWithin (bar part whole) = part ≤ whole
 IsWithin (difference old new) = ⊤
+IsWithin (growth old new) = ⊤
 
 abbrev pub IsSectionWithin : SectionModel → Type 0
 IsSectionWithin section = All (λ (line : List ValueModel). All IsWithin line) section.lines

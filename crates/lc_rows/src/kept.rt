@@ -1,12 +1,13 @@
 //! The part of a report that meets some conditions.
 
-ghost use Rattle.std.specs.Prelude.{◌≡◌, ◌∷◌, ◌++◌, [], true, false, List, map, filter, IfErr, IfOk, IsOk, OnOk};
+ghost use Rattle.std.specs.Prelude.{◌≡◌, ◌∷◌, ◌++◌, [], true, false, List, drop, length, map, filter, slice_index_or, IfErr, IfOk, IsOk, OnOk};
+ghost use Rattle.std.specs.List.{items_where_true};
 ghost use Rattle.lc_sheet.specs.Conditions.{meets, needs_files};
 ghost use Rattle.lc_walk.specs.ReportTotals.{counted_line};
 ghost use Rattle.lc_walk.specs.Sums.{IsInRange};
 ghost use Rattle.lc_walk.specs.Tally.{CountedFile, StandsFor};
 ghost use Rattle.lc_walk.specs.TallyRows.{sums_of_rows};
-ghost use Rattle.lc_rows.specs.Kept.{IsKept, IsPart, file_meets, row_meets, value_of_file, whole_form};
+ghost use Rattle.lc_rows.specs.Kept.{IsKept, IsPart, IsPartWith, file_meets, row_meets, value_of_file, whole_form};
 ghost use Rattle.lc_rows.specs.Kinds.{row_value};
 ghost use Rattle.lc_walk.specs.Classes.{classes_of};
 ghost use Rattle.lc_walk.specs.AllColumns.{all_columns};
@@ -123,6 +124,57 @@ fn tally_of(alloc: Global, files: &[FileLine]) -> Result<Tally, AllocError>
     Ok(tally)
 }
 
+/// Makes the rows and all sums of a report anew from its files.
+fn count_files(alloc: Global, report: &mut Report) -> Result<(), AllocError>
+    ensures counted { OnOk result (IsPartWith report.old.files.items report.old report.new) }
+    ensures faults { report.new.faults ≡ report.old.faults }
+    ensures lists { report.new.lists ≡ report.old.lists }
+{
+    let tally = tally_of(alloc, &report.files)?;
+    report.totals = tally.totals();
+    report.rows = tally.into_rows();
+    let (_, classes) = sums_of(&report.rows)?;
+    report.classes = classes;
+    Ok(())
+}
+
+/// Keeps the files whose marks are true. The mark of each file is at the file's place.
+fn keep_marked_files(marks: &[bool], files: &mut Vec<FileLine>)
+    requires { length marks.now ≡ length files.old.items }
+    ensures { files.new.items ≡ items_where_true marks.now files.old.items }
+{
+    let mut left = marks;
+    files.retain(
+        move |_|
+            ensures value { result ≡ slice_index_or left.entry.now 0 false }
+            ensures left { left.exit.now ≡ drop 1 left.entry.now }
+        {
+            match left.split_first() {
+                None => false,
+                Some((mark, later)) => {
+                    left = later;
+                    *mark
+                }
+            }
+        },
+    );
+}
+
+/// Keeps the files of a report whose marks are true, and makes the rows and all sums anew from these files. The mark of each file is at the
+/// file's place in the list.
+///
+/// Skipped entries, errors and the numbers of directories and entries stay as they are. An error means that an allocation failed, or that
+/// the sums are larger than the sums of any walk.
+pub fn keep_marked(alloc: Global, marks: &[bool], report: &mut Report) -> Result<(), AllocError>
+    requires { length marks.now ≡ length report.old.files.items }
+    ensures kept { OnOk result (IsPartWith (items_where_true marks.now report.old.files.items) report.old report.new) }
+    ensures faults { report.new.faults ≡ report.old.faults }
+    ensures lists { report.new.lists ≡ report.old.lists }
+{
+    keep_marked_files(marks, &mut report.files);
+    count_files(alloc, report)
+}
+
 /// Keeps the files that meet the conditions, and makes the rows and all sums anew from these files. One of the conditions is on a number.
 fn keep_by_files(
     alloc: Global,
@@ -135,12 +187,7 @@ fn keep_by_files(
     ensures lists { report.new.lists ≡ report.old.lists }
 {
     keep_files(conditions, &mut report.files);
-    let tally = tally_of(alloc, &report.files)?;
-    report.totals = tally.totals();
-    report.rows = tally.into_rows();
-    let (_, classes) = sums_of(&report.rows)?;
-    report.classes = classes;
-    Ok(())
+    count_files(alloc, report)
 }
 
 /// The law that sums fit their types. The law is the contract of this function, which does nothing.

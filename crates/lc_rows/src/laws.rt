@@ -8,8 +8,8 @@ pub fn shown_rows_are_the_summed_ones()
     ensures { PermutationLaw }
 {}
 
-/// The law that the rows of a table add up to the same sums as all rows of the report, whichever columns the table lacks. Rows by directory
-/// add up to the sums over all files.
+/// The law that the rows of a table add up to the same sums as all rows of the report, whichever columns the table lacks. Rows by
+/// directories or attributes add up to the sums over all files.
 pub fn shown_rows_keep_the_totals()
     ensures { TotalsLaw }
 {}
@@ -19,13 +19,14 @@ pub fn whole_keys_add_up_to_themselves()
     ensures { WholeLaw }
 {}
 
-/// The law that a row of a table by directory has the sums over the files with the row's key. The directory in the key of a file is the
-/// directory that holds the file, cut after some of its names.
+/// The law that a row of a table by directories or attributes has the sums over the files with the row's key. The directory in the key of a
+/// file is the directory that holds the file, cut after some of its names. The states in the key are those of the attributes that rows are
+/// grouped by.
 pub fn rows_of_a_directory_are_the_sums_of_its_files()
     ensures { DirectoriesLaw }
 {}
 
-/// The law that each file is in exactly one row of a table by directory.
+/// The law that each file is in exactly one row of a table by directories or attributes.
 pub fn each_file_is_in_one_row()
     ensures { OneRowLaw }
 {}

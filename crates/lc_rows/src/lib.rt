@@ -8,7 +8,7 @@
 //! - `directory_tree`, `depth_first`: the rows of a tree of directories, and their order
 //! - `files`: the files that a table lists, sorted
 //! - `cut`: the first rows or files of a table, and the sums over the other rows
-//! - `kept`: the part of a report that meets some conditions
+//! - `kept`: the part of a report that meets some conditions, or that has marked files
 //! - `kinds`: the value of a row, a file or another line in each column of a sheet
 //! - `values`: values of columns that several kinds of lines share
 //! - `words`: the words that are printed of a skipped entry
@@ -44,7 +44,7 @@ pub use cut::split_at_top;
 pub use directories::{directory_at, level_of, name_of, own_part};
 pub use directory_tree::tree_rows;
 pub use files::{number_of, sort_files};
-pub use kept::keep;
+pub use kept::{keep, keep_marked};
 pub use kept_laws::{
     conditions_have_no_order, conditions_keep_totals, no_condition_keeps_all,
     opposite_conditions_add_up,

@@ -6,7 +6,7 @@ ghost use Rattle.lc_rows.specs.SheetLaws.{WalkedSheetLaw};
 use lc_tree::Tree;
 
 /// The law that the shown rows, and the sums over the rows that are cut off, add up to the total in each column of numbers. The law
-/// requires that the report's totals are the sums over its rows, or over its files if rows are by directory.
+/// requires that the report's totals are the sums over its rows, or over its files if rows are by directories or attributes.
 pub fn rows_of_a_sheet_add_up()
     ensures { SheetTotalsLaw }
 {}
@@ -27,7 +27,7 @@ pub fn no_line_of_a_sheet_is_over_its_whole()
 /// The law that each sheet of a walk's report adds up. The shown rows, and the sums over the rows that are cut off, add up to the total.
 /// The sums over text files and over binary files add up to the total. No share is larger than the total, and no bar is longer than the bar
 /// of the largest number. All this is also true of the part of a walk's report that meets conditions such as `lines>1000`. If rows are by
-/// directory, the walk must list its files.
+/// directories or attributes, the walk must list its files.
 pub fn sheets_of_walks_add_up<T: Tree>(tree: &T)
     ensures { WalkedSheetLaw (T.lists tree.now) (T.gives tree.now) }
 {

@@ -51,6 +51,11 @@ impl<'a> Lines for FileChanges<'a> {
                 old: side_number(number, line.old_file),
                 new: side_number(number, line.new_file),
             },
+            Column::Growth(number) => {
+                let old = side_number(number, line.old_file);
+                let new = side_number(number, line.new_file);
+                Value::Growth { old, new }
+            }
             _ => shared_value(form, line.either(), column),
         }
     }

@@ -32,6 +32,11 @@ impl<'a> Lines for Changes<'a> {
                 old: number_in(number, line.old_sums),
                 new: number_in(number, line.new_row.sums),
             },
+            Column::Growth(number) => {
+                let old = number_in(number, line.old_sums);
+                let new = number_in(number, line.new_row.sums);
+                Value::Growth { old, new }
+            }
             _ => Rows::value(&line.new_row, form, column),
         }
     }

@@ -47,6 +47,11 @@ impl Lines for ChangedTotals {
                 old: number_in(number, line.old_sums),
                 new: number_in(number, line.new_sums.sums),
             },
+            Column::Growth(number) => {
+                let old = number_in(number, line.old_sums);
+                let new = number_in(number, line.new_sums.sums);
+                Value::Growth { old, new }
+            }
             _ => Totals::value(&line.new_sums, form, column),
         }
     }

@@ -2,6 +2,7 @@
 
 ghost use Rattle.std.specs.Prelude.{◌≡◌, true, IfOk};
 
+use crate::changes::kept::kept;
 use crate::changes::reports::{BY_EXTENSION, NONE, TSV, report_of, text_of};
 use lc_census::{Count, Eol};
 use lc_changes::{ChangeOptions, ShownChanges};
@@ -194,6 +195,23 @@ fn check(rt: &impl Abort, alloc: Global, case: &Case) -> Result<(), AllocError> 
 fn attributes_that_changed(rt: HostRuntime) -> Result<(), Fail> {
     for case in CASES {
         check(&rt, rt.alloc(), case)?;
+    }
+    Ok(())
+}
+
+const CHANGED: [bool; 4] = [false, true, false, false];
+
+#[test]
+fn the_first_attributes_are_compared(rt: HostRuntime) -> Result<(), Fail> {
+    let alloc = rt.alloc();
+    for (attributes, wanted) in [
+        (0, "0 0;0 0;"),
+        (1, "a.c 1 1;a.c 1 1;"),
+        (2, "a.c b.c 2 2;a.c b.c 2 2;"),
+    ] {
+        let (old, new) = (report(alloc, OLD)?, report(alloc, NEW)?);
+        let text = kept(alloc, CHANGED, attributes, old, new)?;
+        assert!(rt; text.as_slice() == wanted.as_bytes());
     }
     Ok(())
 }

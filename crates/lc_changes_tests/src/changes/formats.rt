@@ -6,13 +6,20 @@ use lc_sheet::{Columns, Format, Number};
 use std::process::Abort;
 use std::test::Fail;
 
-const READ: &str = ".rs 1 0>1 6 0>6 0 0>0 60 0>60 
+const READ: &str = ".rs 1 0>1 6 0>6 0%6 0 0>0 60 0>60 
 
-others 3 4>3 27 26>27 4 4>4 252 260>252 
+others 3 4>3 27 26>27 26%27 4 4>4 252 260>252 
 
-total 5 5>5 37 30>37 5 5>5 321 269>321 
+total 5 5>5 37 30>37 30%37 5 5>5 321 269>321 
 
-added 6 0>6 new.rs 
+added 6 0>6 60 0>60 new.rs 
+
+";
+
+const BY_NAME: &str = "
+others 4 4>4 33 26>33 26%33 4 4>4 312 260>312 
+
+total 5 5>5 37 30>37 30%37 5 5>5 321 269>321 
 
 ";
 
@@ -54,6 +61,12 @@ fn columns_by_format(rt: HostRuntime) -> Result<(), Fail> {
         ..TSV
     };
     check(&rt, rt.alloc(), &read, READ)?;
+    let by_name = ChangeOptions {
+        format: Format::Markdown,
+        top: Some(0),
+        ..TSV
+    };
+    check(&rt, rt.alloc(), &by_name, BY_NAME)?;
     let csv = ChangeOptions {
         format: Format::Csv,
         files: true,

@@ -118,6 +118,7 @@ fn push_value(text: &mut Vec<u8>, value: Value<'_>) -> Result<(), AllocError> {
             write!(text, "{part}/{whole}").map_err(|_| AllocError)
         }
         Value::Difference { old, new } => write!(text, "{old}>{new}").map_err(|_| AllocError),
+        Value::Growth { old, new } => write!(text, "{old}%{new}").map_err(|_| AllocError),
     }
 }
 
