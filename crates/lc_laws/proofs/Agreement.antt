@@ -1,5 +1,5 @@
 -- The report of a count agrees with what is said of each path.
-use Rattle.std.proofs.Common.{◌≡◌, ℕ, ◌+◌, ◌≤◌, true, false, cond, List, [], length, refl, sym, ◌∙◌, ap, subst, arith, inl, inr}
+use Rattle.std.proofs.Common.{◌≡◌, ℕ, ◌+◌, ◌≤◌, true, false, cond, List, [], length, refl, sym, ◌∙◌, ap, subst, arith, inl, inr, None}
 use Rattle.std.specs.List.{Contains}
 use Rattle.lc_paths.specs.Explanations.Explained.{Explanation, ignored, cited, said_for, IsExplained, said_of_none}
 use Rattle.lc_paths.specs.Explanations.{Laws.{IsSaidKept, EntryLaw}, OpenDirs.{DirStack, MayEnter}}
@@ -41,7 +41,7 @@ not_both not_included x e (inr u) = absurd (cc (sym e ∙ u.1))
 not_both (other_kind what) x e (inl u) = absurd (cc (sym e ∙ u))
 not_both (other_kind what) x e (inr u) = absurd (cc (sym e ∙ u.1))
 
-module _ (law : EntryLaw) (Enters : Entering) (s : FiltersModel) (whole : s.only ≡ []) (x : Explanation)
+module _ (law : EntryLaw) (Enters : Entering) (s : FiltersModel) (whole : s.only ≡ None) (x : Explanation)
     (t : Tree) (known : IsKnown Enters s (top_job s) t)
     (asked : ReportLists) (depth : ℕ) (r : Report) (report : IsReportOf asked (walk_of s depth (top_job s) t) r)
     (files : asked.files ≡ true) (skipped_ones : asked.left_out ≡ true) (path : List ℕ) (good : is_bad_path path ≡ false)
@@ -83,7 +83,7 @@ same_question : (Enters : Entering) (o : Options) (q : ExplainOptions) → AskAl
 same_question Enters o q alike path x said =
     subst (λ (f : FiltersModel). IsExplained Enters f path false x) (sym alike.filters) said
 
-asks_whole : (o : Options) (q : ExplainOptions) → AskAlike o q → (asked_by o).filters.only ≡ []
+asks_whole : (o : Options) (q : ExplainOptions) → AskAlike o q → (asked_by o).filters.only ≡ None
 asks_whole o q alike = ap (λ (w : FiltersModel). w.only) alike.filters ∙ alike.whole
 
 -- so does the report by some answers
@@ -91,7 +91,7 @@ pub answers_explained_law : EntryLaw → AnswersExplainedLaw
 answers_explained_law law t u o q r alike listings report path x good agree said =
     let s : FiltersModel = (asked_by o).filters in
     let depth : ℕ = o.max_dirs + length (segments_of path) in
-    let whole : s.only ≡ [] = asks_whole o q alike in
+    let whole : s.only ≡ None = asks_whole o q alike in
     agrees law (EntersBy t) s whole x t
     (known_by_tree s (top_of o) t refl listings) o.lists depth r (report depth (omega arith)) alike.files alike.left_out path good
     (said_by_other s whole false x t listings u path agree

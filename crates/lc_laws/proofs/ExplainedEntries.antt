@@ -54,7 +54,7 @@ module _ (r : Report) (path : List ℕ) (kind : Kind) (s : FiltersModel) (stack 
   taken_told None has = has
   taken_told (Some rule) has = has
 
-module _ (Enters : Entering) (s : FiltersModel) (whole : s.only ≡ []) (x : Explanation) (top : JobModel) (t : Tree)
+module _ (Enters : Entering) (s : FiltersModel) (whole : s.only ≡ None) (x : Explanation) (top : JobModel) (t : Tree)
     (known : IsKnown Enters s top t) (asked : ReportLists) (depth : ℕ) (r : Report)
     (report : IsReportOf asked (walk_of s depth top t) r) (files : asked.files ≡ true) (skipped_ones : asked.left_out ≡ true)
     (path : List ℕ) (kind : Kind) (entry : IsEntryBy s top t path kind)

@@ -14,7 +14,7 @@ use Rattle.lc_laws.specs.ReportedPaths.{IsSkipped, IsKept}
 use Rattle.lc_laws.proofs.{OneWay.fault_level, ReportLists.{found_counted, found_is_skipped, found_faults, found_at_fault}}
 use Rattle.lc_laws.proofs.TakingPart.{part_has}
 
-module _ (s : FiltersModel) (whole : s.only ≡ []) (top : JobModel) (t : Tree) (asked : ReportLists) (depth : ℕ) (r : Report)
+module _ (s : FiltersModel) (whole : s.only ≡ None) (top : JobModel) (t : Tree) (asked : ReportLists) (depth : ℕ) (r : Report)
     (report : IsReportOf asked (walk_of s depth top t) r) where
   abbrev xs : List Found
   xs = walk_of s depth top t

@@ -6,7 +6,7 @@ use Rattle.lc_formats.specs.{JsonLines.{line_members, value_members}, JsonText.{
 use Rattle.lc_reading.specs.Members.{values_at}
 use Rattle.lc_sheet.specs.{ColumnWords.column_word}
 use Rattle.lc_sheet.specs.Values.{ValueModel, missing, summed, blank, word, flag, name, path, number as counted, share}
-use Rattle.lc_sheet.specs.{Values.{bar, difference}, declared.column.Column.Column}
+use Rattle.lc_sheet.specs.{Values.{bar, difference, growth}, declared.column.Column.Column}
 use Rattle.lc_text.specs.Names.{named}
 use Rattle.lc_laws.proofs.JsonMembers.{values_append}
 
@@ -55,6 +55,7 @@ module _ (n w : List ℕ) (other : is_name n w ≡ false) where
   value_apart (share part whole) = refl
   value_apart (bar part whole) = refl
   value_apart (difference old new) = refl
+  value_apart (growth old new) = refl
 
 first_values : (n w : List ℕ) (v : ValueModel) (rest : List Json) (b : Bool) → is_name n w ≡ b
     → values_at n (value_members w v) ++ rest ≡ cond b (values_at n (value_members w v) ++ rest) rest

@@ -61,13 +61,13 @@ dir_there (Some (Other what)) e = absurd (cc e)
 -- where an explanation goes into a directory a walk of the whole tree does
 pub walked_into : (s : FiltersModel) (k : JobModel) (a : Answers) (here : OpenDirModel) → open_dir k a ≡ Ok here → (name : List ℕ)
     → kind_in here.entries name ≡ Some Dir → reason_for s here.job name (kind_asked true (kind_in here.entries name)) ≡ None
-    → WalksInto (narrowed s []) k a name here.job
+    → WalksInto (narrowed s None) k a name here.job
 walked_into s k a here is name kind none =
     let l = entered_listed k a here is in
     record {
       items = l.items;
       listed = l.listed;
-      has = part_has (narrowed s []) refl k.path (directory_item name) l.items
+      has = part_has (narrowed s None) refl k.path (directory_item name) l.items
           (kind_item l.items name (ap (λ (es : List EntryModel). kind_in es name) (sym l.entries) ∙ kind));
       taken = ap is_none (ap (λ (o : Option Kind). reason_for s here.job name (kind_asked true o)) (sym kind) ∙ none);
     }
@@ -85,12 +85,12 @@ map_way None false Skipped Into Onto Beside on a = a
 module _ (s : FiltersModel) (as_dir : Bool) (x : Explanation) (t : Tree) (path : List ℕ)
     (Enters Onto : Entering)
     (known : (place : List (List ℕ)) (name : List ℕ) (names : List (List ℕ)) (k : JobModel) → segments_of path ≡ place ++ name ∷ names
-    → LeadsTo (narrowed s []) (top_job s) t place k → (entered : Result OpenDirModel FaultLineModel) → Enters k entered
+    → LeadsTo (narrowed s None) (top_job s) t place k → (entered : Result OpenDirModel FaultLineModel) → Enters k entered
     → Onto k entered × (entered ≡ open_dir k (t place))) where
   -- what is said in a directory to which names lead, by the one, is said by the other
   abbrev Carried : List (List ℕ) → Type 0
   Carried names =
-      (place : List (List ℕ)) (stack : DirStack) (k : JobModel) (here : OpenDirModel) → LeadsTo (narrowed s []) (top_job s) t place k
+      (place : List (List ℕ)) (stack : DirStack) (k : JobModel) (here : OpenDirModel) → LeadsTo (narrowed s None) (top_job s) t place k
       → open_dir k (t place) ≡ Ok here → segments_of path ≡ place ++ names → IsSaid Enters s stack here names as_dir x
       → IsSaid Onto s stack here names as_dir x
 
@@ -98,7 +98,7 @@ module _ (s : FiltersModel) (as_dir : Bool) (x : Explanation) (t : Tree) (path :
   SaidBelow E stack k names = OnEntering E k x (λ child. IsSaid E s (stack ++ child ∷ []) child names as_dir x)
 
   enter_on : (next : List ℕ) (names : List (List ℕ)) → Carried (next ∷ names) → (place : List (List ℕ)) (stack : DirStack)
-      (k : JobModel) → LeadsTo (narrowed s []) (top_job s) t place k → segments_of path ≡ place ++ next ∷ names
+      (k : JobModel) → LeadsTo (narrowed s None) (top_job s) t place k → segments_of path ≡ place ++ next ∷ names
       → SaidBelow Enters stack k (next ∷ names) → SaidBelow Onto stack k (next ∷ names)
   enter_on next names rest place stack k leads cut (Ok child, enters, said) =
       let e = known place next names k cut leads (Ok child) enters in
@@ -115,7 +115,7 @@ module _ (s : FiltersModel) (as_dir : Bool) (x : Explanation) (t : Tree) (path :
       (λ none there.
       let leaves = walked_into s k (t place) here is name (dir_there (kind_in here.entries name) there) none in
       enter_on next names rest (place ++ name ∷ []) stack (child_job here.job name)
-      (leads_on (narrowed s []) place (top_job s) k here.job name t leads leaves)
+      (leads_on (narrowed s None) place (top_job s) k here.job name t leads leaves)
       (cut ∙ sym (append_assoc place (name ∷ []) (next ∷ names))))
 
   carried : (names : List (List ℕ)) → Carried names
@@ -140,23 +140,23 @@ module _ (s : FiltersModel) (as_dir : Bool) (x : Explanation) (t : Tree) (path :
 
 -- what is said by one is said by another, where the same is read on the way
 pub said_by_way : (s : FiltersModel) (as_dir : Bool) (x : Explanation) (t : Tree)
-    → HasListings (narrowed s []) (top_job s) t → (u : Tree) (path : List ℕ) → AgreeOnWay (narrowed s []) (top_job s) t u path
+    → HasListings (narrowed s None) (top_job s) t → (u : Tree) (path : List ℕ) → AgreeOnWay (narrowed s None) (top_job s) t u path
     → IsExplained (EntersBy u) s path as_dir x → IsExplained (EntersBy t) s path as_dir x
 said_by_way s as_dir x t listings u path agree =
     explained_on s as_dir x t path (EntersBy u) (EntersBy t)
     (λ place name names k cut leads entered enters.
     let there : names_of_path k.path ≡ place =
-    place_names (narrowed s []) place (top_job s) k t listings leads in
+    place_names (narrowed s None) place (top_job s) k t listings leads in
     let same : entered ≡ open_dir k (t place) =
     sym enters ∙ ap (λ p. open_dir k (u p)) there ∙ as_read k (u place)
     ∙ ap (opened k) (sym (agree place name names k cut leads)) ∙ sym (as_read k (t place)) in
     (ap (λ p. open_dir k (t p)) there ∙ sym same, same))
 
 -- so it is where no path alone is asked for
-pub said_by_other : (s : FiltersModel) → s.only ≡ [] → (as_dir : Bool) (x : Explanation) (t : Tree) → HasListings s (top_job s) t
+pub said_by_other : (s : FiltersModel) → s.only ≡ None → (as_dir : Bool) (x : Explanation) (t : Tree) → HasListings s (top_job s) t
     → (u : Tree) (path : List ℕ) → AgreeOnWay s (top_job s) t u path
     → IsExplained (EntersBy u) s path as_dir x → IsExplained (EntersBy t) s path as_dir x
 said_by_other s whole as_dir x t listings u path agree =
-    let same : s ≡ narrowed s [] = ap (narrowed s) whole in
+    let same : s ≡ narrowed s None = ap (narrowed s) whole in
     said_by_way s as_dir x t (subst (λ (w : FiltersModel). HasListings w (top_job s) t) same listings) u path
     (subst (λ (w : FiltersModel). AgreeOnWay w (top_job s) t u path) same agree)

@@ -6,7 +6,7 @@ use Rattle.lc_formats.specs.Shares.{rounded_parts}
 use Rattle.lc_rows.proofs.WalkedSheets.{walked_sheet_law}
 use Rattle.lc_rows.specs.SheetLaws.{IsSectionWithin, IsWithin}
 use Rattle.lc_sheet.specs.{Sheets.SectionModel, Values.{ValueModel, missing, summed, blank, word, flag, name, path, number, share, bar}}
-use Rattle.lc_sheet.specs.Values.{difference}
+use Rattle.lc_sheet.specs.Values.{difference, growth}
 use Rattle.lc_tree.specs.Trees.{Listings, Contents}
 use Rattle.lc_laws.specs.PrintedShares.{AreSharesWithin, IsPrintedWithin, PrintedSharesLaw}
 
@@ -22,6 +22,7 @@ value_printed (number n) within = tt
 value_printed (share part whole) within = (rounded_parts 1000 part whole, parts_law 1000 part whole within, refl)
 value_printed (bar part whole) within = tt
 value_printed (difference old new) within = tt
+value_printed (growth old new) within = tt
 
 section_printed : (section : SectionModel) → IsSectionWithin section → AreSharesWithin section
 section_printed section within =

@@ -35,22 +35,22 @@ found_kind k a here well_formed is name kind has =
     ∙ ap (λ (d : Kind). Some d) i.kind_is
 
 module _ (s : FiltersModel) (x : Explanation) (top : JobModel) (t : Tree)
-    (known : IsKnown (EntersBy t) (narrowed s []) top t) (path : List ℕ) (entry : IsEntryBy (narrowed s []) top t path Dir) where
+    (known : IsKnown (EntersBy t) (narrowed s None) top t) (path : List ℕ) (entry : IsEntryBy (narrowed s None) top t path Dir) where
   abbrev SaidBelow : Bool → DirStack → JobModel → List (List ℕ) → Type 0
   SaidBelow as_dir stack k names =
       OnEntering (EntersBy t) k x (λ here. IsSaid (EntersBy t) s (stack ++ here ∷ []) here names as_dir x)
 
   abbrev Alike : List (List ℕ) → Type 0
   Alike names =
-      (place : List (List ℕ)) (stack : DirStack) (k : JobModel) → LeadsTo (narrowed s []) top t place k
+      (place : List (List ℕ)) (stack : DirStack) (k : JobModel) → LeadsTo (narrowed s None) top t place k
       → segments_of path ≡ place ++ names → SaidBelow true stack k names → SaidBelow false stack k names
 
-  is_entered : (place : List (List ℕ)) (k : JobModel) (here : OpenDirModel) → LeadsTo (narrowed s []) top t place k
+  is_entered : (place : List (List ℕ)) (k : JobModel) (here : OpenDirModel) → LeadsTo (narrowed s None) top t place k
       → EntersBy t k (Ok here) → open_dir k (t place) ≡ Ok here
   is_entered place k here leads enters = sym ((known place k leads).0 (Ok here) enters)
 
   kind_there : (place : List (List ℕ)) (k : JobModel) (here : OpenDirModel) (name : List ℕ) (names : List (List ℕ))
-      → LeadsTo (narrowed s []) top t place k → segments_of path ≡ place ++ name ∷ names → EntersBy t k (Ok here)
+      → LeadsTo (narrowed s None) top t place k → segments_of path ≡ place ++ name ∷ names → EntersBy t k (Ok here)
       → (own : Kind) → ((items : List Item) → (t place).here ≡ Ok items
       → Contains (entries_of items) (record { name = name; kind = own })) → kind_in here.entries name ≡ Some own
   kind_there place k here name names leads cut enters own has =
@@ -85,7 +85,7 @@ module _ (s : FiltersModel) (x : Explanation) (top : JobModel) (t : Tree)
             (λ none.
             let leaves = walked_into s k (t place) here (is_entered place k here leads enters) name there none in
             rest (place ++ name ∷ []) (stack ++ here ∷ []) (child_job here.job name)
-            (leads_on (narrowed s []) place top k here.job name t leads leaves)
+            (leads_on (narrowed s None) place top k here.job name t leads leaves)
             (cut ∙ sym (append_assoc place (name ∷ []) (next ∷ names)))) said,
       )
 
@@ -111,5 +111,5 @@ answers_slash_law t q path x listings entry = at (is_bad_path path)
         (λ here. IsSaid (EntersBy t) s (here ∷ []) here (segments_of path) false x))
     at true e = e
     at false said =
-        alike s x top t (known_by_tree (narrowed s []) top t refl listings) path entry (segments_of path) [] []
+        alike s x top t (known_by_tree (narrowed s None) top t refl listings) path entry (segments_of path) [] []
         top refl refl said

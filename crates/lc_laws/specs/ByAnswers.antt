@@ -1,5 +1,5 @@
 -- The explanation of a path by given answers: one state of a tree's directories, as far as an explanation asked for it.
-use Rattle.std.specs.{Prelude.{◌≡◌, ℕ, Bool, List, [], ◌∷◌, ◌++◌, Result, Ok, Err}, List.Contains}
+use Rattle.std.specs.{Prelude.{◌≡◌, ℕ, Bool, List, [], ◌∷◌, ◌++◌, None, Result, Ok, Err}, List.Contains}
 use Rattle.lc_paths.specs.Explanations.{Answers.MaySay, Explained.{Explanation, IsExplained}, OpenDirs.{OpenDirModel, open_dir}}
 use Rattle.lc_paths.specs.declared.explaining.explain_options.ExplainOptions.{ExplainOptions}
 use Rattle.lc_glob.specs.Path.{segments_of}
@@ -28,7 +28,7 @@ module _ (q : ExplainOptions) where
   top_asked = top_job q.filters.now
 
   abbrev pub whole_asked : FiltersModel
-  whole_asked = narrowed q.filters.now []
+  whole_asked = narrowed q.filters.now None
 
   -- `x` is the explanation of a path, if directories are entered by `Enters`
   abbrev pub SaysEntering : (JobModel → Result OpenDirModel FaultLineModel → Type 0) → List ℕ → Bool → Explanation → Type 0

@@ -1,5 +1,5 @@
 -- The law that a count and an explanation agree.
-use Rattle.std.specs.{Prelude.{◌≡◌, ◌⊎◌, ℕ, true, false, List, [], Ok}, List.Contains}
+use Rattle.std.specs.{Prelude.{◌≡◌, ◌⊎◌, ℕ, true, false, List, None, Ok}, List.Contains}
 use Rattle.lc_paths.specs.Explanations.Answers.{MaySay}
 use Rattle.lc_paths.specs.Explanations.Explained.{Explanation, bad, faulted, below, ignored, included, unruled, left_out}
 use Rattle.lc_paths.specs.{Explanations.Laws.IsSaidKept, declared.explaining.explain_options.ExplainOptions.ExplainOptions}
@@ -16,7 +16,7 @@ pub record AskAlike (o : Options) (q : ExplainOptions) : Type 0 where
   pub files : o.lists.files ≡ true
   pub left_out : o.lists.left_out ≡ true
   pub filters : (asked_by o).filters ≡ q.filters.now
-  pub whole : q.filters.now.only ≡ []
+  pub whole : q.filters.now.only ≡ None
 
 -- the explanation says that an entry is skipped for this reason: ignored by this rule, or left
 abbrev pub IsSaidSkipped : Reason → Explanation → Type 0

@@ -4,7 +4,7 @@ use Rattle.lc_formats.specs.{Cells.shown_text, Shares.share_word}
 use Rattle.lc_rows.specs.{Sheets.IsSheetOf, WalkedReports.{IsOfWalk, ListsFilesFor}}
 use Rattle.lc_sheet.specs.Sheets.{SectionModel, SheetModel}
 use Rattle.lc_sheet.specs.Values.{ValueModel, missing, summed, blank, word, flag, name, path, number, share}
-use Rattle.lc_sheet.specs.{Values.{bar, difference}, declared.table_options.TableOptions.TableOptions}
+use Rattle.lc_sheet.specs.{Values.{bar, difference, growth}, declared.table_options.TableOptions.TableOptions}
 use Rattle.lc_tree.specs.Trees.{Listings, Contents}
 use Rattle.lc_walk.specs.declared.{options.Options.Options, report.Report.Report}
 
@@ -21,6 +21,7 @@ IsPrintedWithin (number n) = ⊤
 IsPrintedWithin (share part whole) = (tenths : ℕ) × (tenths ≤ 1000) × (shown_text (share part whole) ≡ share_word tenths)
 IsPrintedWithin (bar part whole) = ⊤
 IsPrintedWithin (difference old new) = ⊤
+IsPrintedWithin (growth old new) = ⊤
 
 abbrev pub AreSharesWithin : SectionModel → Type 0
 AreSharesWithin section = All (λ (line : List ValueModel). All IsPrintedWithin line) section.lines
