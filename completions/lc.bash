@@ -14,9 +14,10 @@ _lc_options() {
     count) echo --exclude --exclude-from --include --no-ignore --archive --without --attributes-from --only --only-from \
       --null -0 --one-file-system -x --files --left-out --where --no-binary --format --by --depth --sort --top --share \
       --fail-if-any --threads -j --max-dirs ;;
-    sum) echo --files --left-out --where --no-binary --format --by --depth --sort --top --share --fail-if-any ;;
+    sum) echo --files --left-out --where --no-binary --format --by --depth --sort --top --share --null -0 --fail-if-any \
+      ;;
     diff) echo --exclude --exclude-from --include --no-ignore --archive --without --attributes-from --only --only-from \
-      --null -0 --one-file-system -x --where --no-binary --depth --top --threads -j --max-dirs --all --files --format \
+      --null -0 --one-file-system -x --no-binary --depth --top --threads -j --max-dirs --all --files --where --format \
       --by --sort --fail-if-any ;;
     explain) echo --exclude --exclude-from --include --no-ignore --archive --without --attributes-from --null -0 ;;
     check) echo --explain --null -0 ;;
@@ -34,7 +35,7 @@ _lc_value() {
     --only) mapfile -t COMPREPLY < <(compgen -f -- "$2") ;;
     --only-from) mapfile -t COMPREPLY < <(compgen -f -- "$2") ;;
     --where) ;;
-    --format) mapfile -t COMPREPLY < <(compgen -W 'tsv table json csv markdown html' -- "$2") ;;
+    --format) mapfile -t COMPREPLY < <(compgen -W 'tsv table json csv markdown html paths' -- "$2") ;;
     --by) mapfile -t COMPREPLY < <(compgen -W "$(_lc_columns "$2" dir lang ext text eol)" -- "$2") ;;
     --depth) mapfile -t COMPREPLY < <(compgen -W '1 2 3' -- "$2") ;;
     --sort) mapfile -t COMPREPLY < <(compgen -W 'name files lines blank bytes' -- "$2") ;;

@@ -3,7 +3,7 @@ use Rattle.std.proofs.{Common.{◌≡◌, ◌∙◌, ◌+◌, ◌<◌, ℕ, List
 use Rattle.std.proofs.lemmas.List.{take_more, Elements.filter_map-append}
 use Rattle.std.specs.Borrow.{Bor}
 use Rattle.lc_sheet.specs.Conditions.{ConditionModel}
-use Rattle.lc_arguments.specs.ConditionWords.{condition_of, conditions_of}
+use Rattle.lc_arguments.specs.ConditionWords.{conditions_of, file_condition_of}
 
 abbrev bytes_of : Bor (List ℕ) → List ℕ
 bytes_of text = text.now
@@ -14,6 +14,6 @@ pub one_text_more : (attributes : List (List ℕ)) (texts : List (Bor (List ℕ)
     → new ≡ conditions_of attributes (map (λ text. text.now) (take (i + 1) texts))
 one_text_more attributes texts i d old new low is adds =
     adds ∙ (ap (λ cs. cs ++ conditions_of attributes ((get_or texts i d).now ∷ [])) is
-    ∙ (sym (filter_map-append (condition_of attributes) (map bytes_of (take i texts)) ((get_or texts i d).now ∷ []))
+    ∙ (sym (filter_map-append (file_condition_of attributes) (map bytes_of (take i texts)) ((get_or texts i d).now ∷ []))
     ∙ ap (conditions_of attributes) (sym (ap (map bytes_of) (take_more texts i d low)
     ∙ map-append bytes_of (take i texts) (get_or texts i d ∷ [])))))

@@ -4,9 +4,9 @@ use Rattle.std.specs.{Option.option_map_or, Str.bytes_eq}
 use Rattle.clap.specs.Walk.{is_empty}
 use Rattle.lc_sheet.specs.Keys.{are_all}
 use Rattle.lc_sheet.specs.declared.table_options.{Columns.Columns, Format.TheVariants.{Table, Csv, Markdown}}
-use Rattle.lc_sheet.specs.declared.table_options.Output.{Output, TheVariants.{Text, Picture}}
+use Rattle.lc_sheet.specs.declared.table_options.Output.{Output, TheVariants.{Text, Picture, Paths}}
 use Rattle.lc_sheet.specs.declared.table_options.Order.{Order, TheVariants.Name}
-use Rattle.lc_arguments.specs.declared.{count.CountRequest.CountRequest, diff.DiffRequest.DiffRequest}
+use Rattle.lc_arguments.specs.declared.{count.CountRequest.CountRequest, diff.DiffRequest.DiffRequest, sum.SumRequest.SumRequest}
 use Rattle.lc_arguments.specs.declared.{walk_request.WalkRequest.WalkRequest, table.TableRequest.TableRequest}
 
 -- the named format shows each row's share of the total if `--share` is used; without a named format, `--share` means a table, which does
@@ -16,15 +16,25 @@ shows_shares (Some (Text Table)) = true
 shows_shares (Some (Text Markdown)) = true
 shows_shares _ = false
 
--- `--format csv` was typed: the format that has records of one kind only
+-- `--format csv` or `--format paths` was typed: the formats that have records of one kind only
 abbrev pub has_one_kind : Option Output → Bool
 has_one_kind (Some (Text Csv)) = true
+has_one_kind (Some Paths) = true
 has_one_kind _ = false
 
 -- `--format html` was typed, which names a picture
 abbrev pub is_picture : Option Output → Bool
 is_picture (Some Picture) = true
 is_picture _ = false
+
+-- `--format paths` was typed
+abbrev pub is_paths : Option Output → Bool
+is_paths (Some Paths) = true
+is_paths _ = false
+
+-- the format can show how two sides differ
+abbrev pub shows_differences : Option Output → Bool
+shows_differences format = not (is_picture format || is_paths format)
 
 -- `--sort name` was typed: the order that sorts by no number
 abbrev pub is_by_name : Option Order → Bool
@@ -40,13 +50,18 @@ narrows (Some by) = not (are_all by)
 abbrev pub asks_for_rows : TableRequest → Bool → Bool
 asks_for_rows table left_out = table.files || left_out || is_some table.top || narrows table.by
 
--- shares need a format that can show them; csv lists files or skipped entries, but not both; and a picture lists nothing, shows all rows of
--- a report, and is not sorted by name
+-- the options of a picture can be combined: it lists nothing, shows all rows of a report, and is not sorted by name
+abbrev pub picture_fits : TableRequest → Bool → Bool
+picture_fits table left_out =
+    not (is_picture table.format && asks_for_rows table left_out) && not (is_picture table.format && is_by_name table.sort)
+
+-- shares need a format that can show them; csv and paths list files or skipped entries, but not both; paths are in no rows, so they need no
+-- columns; and the options of a picture can be combined
 abbrev pub table_fits : TableRequest → Bool → Bool
 table_fits table left_out =
     (not table.share || shows_shares table.format)
     && (not (table.files && left_out && has_one_kind table.format)
-    && (not (is_picture table.format && asks_for_rows table left_out) && not (is_picture table.format && is_by_name table.sort)))
+    && (not (is_paths table.format && is_some table.by) && picture_fits table left_out))
 
 -- `--only` or `--only-from` chooses paths, which are relative to one directory
 abbrev pub asks_for_paths : WalkRequest → Bool
@@ -56,13 +71,21 @@ asks_for_paths w = not (is_empty w.only.items) || is_some w.only_from
 abbrev pub walk_fits : WalkRequest → Bool
 walk_fits w = not w.null || is_some w.only_from
 
+-- `--null` needs `--only-from` or `--format paths`
+abbrev pub null_fits : CountRequest → Bool
+null_fits c = walk_fits c.walk || is_paths c.table.format
+
 -- `--only` and `--only-from` need one directory, because their paths are relative to it
 abbrev pub paths_fit : CountRequest → Bool
 paths_fit c = not (nat_lt 1 (length c.directories.items) && asks_for_paths c.walk)
 
--- the options of the table can be combined, and the options that choose files can be; and chosen paths belong to one directory
+-- the options of the table can be combined; `--null` has paths to end; and chosen paths belong to one directory
 abbrev pub fit_together : CountRequest → Bool
-fit_together c = table_fits c.table c.left_out && (walk_fits c.walk && paths_fit c)
+fit_together c = table_fits c.table c.left_out && (null_fits c && paths_fit c)
+
+-- the options of the table can be combined, and `--null` has paths to end
+abbrev pub sum_fits : SumRequest → Bool
+sum_fits s = table_fits s.table s.left_out && (not s.null || is_paths s.table.format)
 
 -- the word is `-`, which names standard input
 abbrev pub is_dash : List ℕ → Bool
@@ -77,6 +100,7 @@ abbrev pub reads_input_once : DiffRequest → Bool
 reads_input_once d =
     not (is_dash d.old.now && is_dash d.new.now) && not (takes_input d.walk && (is_dash d.old.now || is_dash d.new.now))
 
--- the table is no picture; its options can be combined, and the options that choose files can be; and standard input is read once
+-- the format can show differences; the options of the table can be combined, and the options that choose files can be; and standard input
+-- is read once
 abbrev pub diff_fits : DiffRequest → Bool
-diff_fits d = not (is_picture d.table.format) && (table_fits d.table false && (walk_fits d.walk && reads_input_once d))
+diff_fits d = shows_differences d.table.format && (table_fits d.table false && (walk_fits d.walk && reads_input_once d))

@@ -3,8 +3,9 @@ use Rattle.std.specs.Prelude.{ℕ, ◌==◌, ◌&&◌, ◌||◌, ◌+◌, ◌*�
 use Rattle.std.specs.{Prelude.{codes, Option, Some, None}, List.{filter_map, list_all, list_any}, Str.bytes_eq}
 use Rattle.lc_glob.specs.{Bytes.slash, Pieces.{is_byte, pieces_of}}
 use Rattle.lc_rules.specs.Bytes.{equals_sign, space}
-use Rattle.lc_sheet.specs.{ColumnWords.column_word, Conditions.{ConditionModel, comma, compared, none_of, one_of}}
-use Rattle.lc_sheet.specs.declared.column.{Column.{Column, TheVariants.{Key, Number}}, Number.TheVariants.{Lines, Blank, Bytes}}
+use Rattle.lc_sheet.specs.{ColumnWords.column_word, Conditions.{ConditionModel, comma, compared, meets, none_of, one_of}}
+use Rattle.lc_sheet.specs.{Values.word, declared.change_kinds.ChangeKinds.ChangeKinds}
+use Rattle.lc_sheet.specs.declared.column.{Column.{Column, TheVariants.{Change, Key, Number}}, Number.TheVariants.{Lines, Blank, Bytes}}
 use Rattle.lc_sheet.specs.declared.key.Key.TheVariants.{Attribute, Ext, Text, Eol}
 use Rattle.lc_arguments.specs.{AttributeWords.{after_name, column_tested, place_of}}
 use Rattle.lc_arguments.specs.Texts.{after_front, exclamation_mark, greater_sign, less_sign}
@@ -19,9 +20,9 @@ without_spaces (b ∷ bs) = cond (b == space) (without_spaces bs) (b ∷ bs)
 
 -- ---- columns
 
--- the columns that a condition may be on
+-- the columns that a condition may be on; `change` compares two sides
 abbrev pub condition_columns : List Column
-condition_columns = Key Ext ∷ Key Text ∷ Key Eol ∷ Number Lines ∷ Number Blank ∷ Number Bytes ∷ []
+condition_columns = Key Ext ∷ Key Text ∷ Key Eol ∷ Number Lines ∷ Number Blank ∷ Number Bytes ∷ Change ∷ []
 
 abbrev pub or_column : Column → Option (List ℕ) → Option (Column × List ℕ) → Option (Column × List ℕ)
 or_column column (Some rest) other = Some (column, rest)
@@ -80,6 +81,8 @@ can_have (Key Eol) text =
     bytes_eq text (codes "none") || bytes_eq text (codes "lf") || bytes_eq text (codes "crlf") || bytes_eq text (codes "cr")
     || bytes_eq text (codes "mixed") || bytes_eq text (codes "nul")
 can_have (Key (Attribute place)) text = true
+can_have Change text =
+    bytes_eq text (codes "added") || bytes_eq text (codes "changed") || bytes_eq text (codes "removed") || bytes_eq text (codes "same")
 can_have other text = false
 
 -- a column can have each of some values, which commas separate
@@ -138,9 +141,21 @@ condition_on (Some column) = condition_by column.0 (operator_at (without_spaces 
 abbrev pub condition_of : List (List ℕ) → List ℕ → Option ConditionModel
 condition_of attributes text = condition_on (column_at attributes text)
 
--- the conditions that texts write; a text that is no condition adds none
+abbrev pub is_change : Column → Bool
+is_change Change = true
+is_change other = false
+
+abbrev pub unless_change : Option ConditionModel → Option ConditionModel
+unless_change None = None
+unless_change (Some c) = cond (is_change c.column) None (Some c)
+
+-- the condition that a text writes, unless the condition is on `change`
+abbrev pub file_condition_of : List (List ℕ) → List ℕ → Option ConditionModel
+file_condition_of attributes text = unless_change (condition_of attributes text)
+
+-- the conditions that texts write; a text that is no condition, or one on `change`, adds none
 abbrev pub conditions_of : List (List ℕ) → List (List ℕ) → List ConditionModel
-conditions_of attributes texts = filter_map (condition_of attributes) texts
+conditions_of attributes texts = filter_map (file_condition_of attributes) texts
 
 -- the condition of files that are not binary
 abbrev pub not_binary : ConditionModel
@@ -149,3 +164,30 @@ not_binary = record { column = Key Eol; test = none_of (codes "nul" ∷ []) }
 -- the conditions that texts write, and, if `--no-binary` was typed, the condition that a file is not binary
 abbrev pub all_conditions : List (List ℕ) → List (List ℕ) → Bool → List ConditionModel
 all_conditions attributes texts asked = conditions_of attributes texts ++ cond asked (not_binary ∷ []) []
+
+-- ---- conditions on `change`
+
+abbrev pub is_at_change : Option (Column × List ℕ) → Bool
+is_at_change None = false
+is_at_change (Some column) = is_change column.0
+
+-- the column of a text is `change`
+abbrev pub compares_sides : List ℕ → Bool
+compares_sides text = is_at_change (column_at [] text)
+
+abbrev pub allows_by : List ℕ → Option ConditionModel → Bool
+allows_by kind None = true
+allows_by kind (Some c) = cond (is_change c.column) (meets c.test (word kind)) true
+
+-- the condition that a text writes allows files of which this word says what became of them; a condition on another column allows all
+abbrev pub allows : List ℕ → List ℕ → Bool
+allows kind text = allows_by kind (condition_of [] text)
+
+-- the kinds of files that each of the conditions that texts write allows
+abbrev pub changes_of : List (List ℕ) → ChangeKinds
+changes_of texts = record {
+  added = list_all (allows (codes "added")) texts;
+  changed = list_all (allows (codes "changed")) texts;
+  removed = list_all (allows (codes "removed")) texts;
+  same = list_all (allows (codes "same")) texts;
+}

@@ -6,12 +6,12 @@ use Rattle.clap.specs.{declared.{error.kind.ErrorKind.TheVariants.OutOfMemory, p
 use Rattle.lc_arguments.specs.CommandLine.{check_app, command_app, count_app, diff_app, explain_app, lc_app, rules_in, sum_app}
 use Rattle.lc_arguments.specs.Words.{IsText, IsNoRequestBy, IsCheckOf, IsExplainOf, MayRefuse, MayShow, AsksNoCount, AsksNoSum}
 use Rattle.lc_arguments.specs.Words.{AsksNoTable, AreAttributesOf, AreFiltersOf, IsFitCountOf, IsFitSumOf, AreConditionsOf, IsWholeTableIn}
-use Rattle.lc_arguments.specs.Words.{Misvalue}
+use Rattle.lc_arguments.specs.{ConditionWords.compares_sides, Words.Misvalue}
 use Rattle.lc_arguments.specs.Words.{directories_read, is_bad_part, part_of, reports_read, texts_read, values_read, AsksNoDiff}
 use Rattle.lc_arguments.specs.{Words.{AsksNoWalk, IsFitDiffOf, IsWalkOf}, ReadNumbers.{AreCutsIn, AreNumbersIn, AreReadBy}}
 use Rattle.lc_arguments.specs.{Directories.{are_distinct, unslashed}, Repeated.are_allowed, Reports.{name_reports, named_of, report_model}}
 use Rattle.lc_arguments.specs.{TableWords.{AreColumnsBy, IsTableBy, order_word, output_word}, declared.numbers.{Cuts.Cuts, Numbers.Numbers}}
-use Rattle.lc_arguments.specs.declared.{repeated.Repeated.Repeated, table.TableRequest.TableRequest}
+use Rattle.lc_arguments.specs.declared.{repeated.Repeated.{Repeated, TheVariants.Conditions}, table.TableRequest.TableRequest}
 use Rattle.lc_arguments.specs.declared.request.ParseExit.{ParseExit, TheVariants.{Shown, Refused, Memory}}
 use Rattle.lc_arguments.specs.declared.request.Request.{Request, TheVariants.CheckJoined}
 use Rattle.lc_arguments.specs.declared.{check.CheckRequest.CheckRequest, count.CountRequest.CountRequest}
@@ -90,6 +90,15 @@ AnswersAttributes rows = AnswersOr (λ (attributes : Vec (Bor (List ℕ))). AreA
 abbrev pub AnswersConditions : List Row → List (List ℕ) → Result (Vec ConditionModel) ParseExit → Type 0
 AnswersConditions rows attributes =
     AnswersOr (λ (conditions : Vec ConditionModel). AreConditionsOf rows attributes conditions.items) (Misvalue rows)
+
+-- no condition of these texts is on `change`, which compares two sides; or one is
+abbrev pub AnswersOneSided : List (List ℕ) → Result (Unit {0}) ParseExit → Type 0
+AnswersOneSided texts =
+    AnswersOr (λ (_ : Unit {0}). list_any compares_sides texts ≡ false) (list_any compares_sides texts ≡ true)
+
+-- of those that were read
+abbrev pub AnswersOneSidedIn : List Row → Result (Unit {0}) ParseExit → Type 0
+AnswersOneSidedIn rows result = AnswersOneSided (values_read rows Conditions) result
 
 -- the values of an option, in their order, or the option may not have them all
 abbrev pub AnswersRepeated : Repeated → List (List ℕ) → Result (Vec (Bor (List ℕ))) ParseExit → Type 0

@@ -100,11 +100,12 @@ options =
     ∷ option (codes "attributes-from") None Text None filters
     ∷ option (codes "only") None Texts None walks
     ∷ option (codes "only-from") None Text None walks
-    ∷ option (codes "null") (Some 48) Flag None walks
+    ∷ option (codes "null") (Some 48) Flag None count
+    ∷ option (codes "null") (Some 48) Flag None diff
     ∷ option (codes "one-file-system") (Some 120) Flag None walks
     ∷ option (codes "files") None Flag None printed
     ∷ option (codes "left-out") None Flag None printed
-    ∷ option (codes "where") None Texts None tables
+    ∷ option (codes "where") None Texts None printed
     ∷ option (codes "no-binary") None Flag None tables
     ∷ option (codes "format") None Text None printed
     ∷ option (codes "by") None Text None printed
@@ -112,6 +113,7 @@ options =
     ∷ option (codes "sort") None Text None printed
     ∷ option (codes "top") None (Number max_top) None tables
     ∷ option (codes "share") None Flag None printed
+    ∷ option (codes "null") (Some 48) Flag None sum
     ∷ option (codes "fail-if-any") None Flag None printed
     ∷ option (codes "threads") (Some 106) (Number max_threads) (Some (codes "4")) walks
     ∷ option (codes "max-dirs") None (Number max_dirs) (Some (codes "65536")) walks
@@ -119,6 +121,7 @@ options =
     ∷ option (codes "REPORT") None Words (Some (codes "-")) sum
     ∷ option (codes "all") None Flag None diff
     ∷ option (codes "files") None Flag None diff
+    ∷ option (codes "where") None Texts None diff
     ∷ option (codes "format") None Text None diff
     ∷ option (codes "by") None Text None diff
     ∷ option (codes "sort") None Text None diff

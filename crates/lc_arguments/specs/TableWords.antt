@@ -5,11 +5,11 @@ use Rattle.std.specs.{Bool.MatchBool, Prelude.{is_some, codes, IfSome}, List.{li
 use Rattle.lc_glob.specs.Pieces.{pieces_of}
 use Rattle.lc_sheet.specs.{Keys.{has_key, key_name, keys}, declared.key.Key.{Key, TheVariants.Attribute}}
 use Rattle.lc_sheet.specs.declared.table_options.{Columns.Columns, Format.{Format, TheVariants.{Tsv, Table, Json, Csv, Markdown}}}
-use Rattle.lc_sheet.specs.declared.table_options.Output.{Output, TheVariants.{Text, Picture}}
+use Rattle.lc_sheet.specs.declared.table_options.Output.{Output, TheVariants.{Text, Picture, Paths}}
 use Rattle.lc_sheet.specs.declared.table_options.{Order.{Order, TheVariants.{Name, Largest}}, TableOptions.TableOptions}
 use Rattle.lc_sheet.specs.declared.column.Number.{Number, TheVariants.{Files, Lines, Blank, Bytes}}
 use Rattle.lc_arguments.specs.AttributeWords.{how_often, languages_in, names_attribute, names_column}
-use Rattle.lc_arguments.specs.{Texts.comma, declared.table.TableRequest.TableRequest}
+use Rattle.lc_arguments.specs.{Combinations.is_paths, Texts.comma, declared.table.TableRequest.TableRequest}
 
 -- the word of `--format` that names an output
 abbrev pub output_word : Output → List ℕ
@@ -19,6 +19,7 @@ output_word (Text Json) = codes "json"
 output_word (Text Csv) = codes "csv"
 output_word (Text Markdown) = codes "markdown"
 output_word Picture = codes "html"
+output_word Paths = codes "paths"
 
 abbrev pub sort_word : Number → List ℕ
 sort_word Files = codes "files"
@@ -119,6 +120,10 @@ number_of (Largest number) = Some number
 abbrev pub order_in : Output → TableRequest → Order
 order_in output s = unwrap_or s.sort (default_order output s.top)
 
+-- files are listed: `--files` was typed, or the format is that of paths
+abbrev pub lists_files : TableRequest → Bool
+lists_files s = s.files || is_paths s.format
+
 -- the options of a table: if no format is named and no shares are shown, the format is `other`; if no columns are named, these columns
 abbrev pub options_in : Format → Columns → TableRequest → TableOptions
 options_in other columns s = record {
@@ -126,6 +131,6 @@ options_in other columns s = record {
   by = unwrap_or s.by columns;
   sort = number_of (order_in (output_in other s) s);
   top = s.top;
-  files = s.files;
+  files = lists_files s;
   share = s.share;
 }

@@ -5,9 +5,9 @@ use Rattle.clap.specs.{Faults.fault_of, Kinds.{IsAmong, Kinds}, Simple.matches_o
 use Rattle.clap.specs.declared.error.kind.ErrorKind.{ErrorKind, TheVariants.{DisplayHelp, DisplayVersion}}
 use Rattle.lc_glob.specs.{Bytes.{hyphen, slash}, Pieces.is_byte}
 use Rattle.lc_arguments.specs.CommandLine.{count_app, check_app, diff_app, explain_app, languages_app, lc_app, sum_app}
-use Rattle.lc_arguments.specs.{AttributeWords.attributes_asked, Combinations.{diff_fits, fit_together, table_fits}}
+use Rattle.lc_arguments.specs.{AttributeWords.attributes_asked, Combinations.{diff_fits, fit_together, sum_fits}}
 use Rattle.lc_arguments.specs.Options.{max_depth, max_dirs, max_threads}
-use Rattle.lc_arguments.specs.ConditionWords.{all_conditions}
+use Rattle.lc_arguments.specs.ConditionWords.{all_conditions, changes_of, compares_sides}
 use Rattle.lc_arguments.specs.{Directories.{are_distinct, or_default, unslashed}, Repeated.{are_allowed, id_of}}
 use Rattle.lc_arguments.specs.declared.repeated.Repeated.{Repeated, TheVariants.{Attributes, Excluded, Included, Conditions}}
 use Rattle.lc_arguments.specs.declared.{reports.NamedReport.NamedReport, diff.DiffRequest.DiffRequest, sum.SumRequest.SumRequest}
@@ -129,6 +129,13 @@ pub record AreConditionsOf (rows : List Row) (attributes : List (List ℕ)) (cs 
   pub flag : IsFlag (codes "no-binary") rows no_binary
   pub are : cs ≡ all_conditions attributes (values_read rows Conditions) no_binary
 
+-- a condition of `--where` is on `change`, which compares two sides; and none is
+abbrev pub ComparesSides : List Row → Type 0
+ComparesSides rows = list_any compares_sides (values_read rows Conditions) ≡ true
+
+abbrev pub IsOneSided : List Row → Type 0
+IsOneSided rows = list_any compares_sides (values_read rows Conditions) ≡ false
+
 -- a table has the requested format, columns and order, and its directories are cut to this depth
 abbrev pub IsTableAt : List Row → Option ℕ → TableRequest → Type 0
 IsTableAt rows depth s =
@@ -175,6 +182,7 @@ pub record IsCountOf (rows : List Row) (c : CountRequest) : Type 0 where
   pub left_out : IsFlag (codes "left-out") rows c.left_out
   pub table : IsWholeTableIn rows c.table
   pub attributes : AreAttributesOf rows c.attributes.items
+  pub one_sided : IsOneSided rows
   pub conditions : AreConditionsOf rows (map (λ attribute. attribute.now) c.attributes.items) c.conditions.items
   pub fail_if_any : IsFlag (codes "fail-if-any") rows c.fail_if_any
   pub directories : AreDirectoriesOf rows c.directories.items
@@ -187,9 +195,10 @@ IsFitCountOf rows c = IsCountOf rows c × (fit_together c ≡ true)
 abbrev pub Misfit : List Row → Type 0
 Misfit rows = (c : CountRequest) × IsCountOf rows c × (fit_together c ≡ false)
 
--- the arguments request no count: they request no walk, name a directory twice, request no table, or have options that do not fit together
+-- the arguments request no count: they request no walk, name a directory twice, request no table, compare two sides, or have options that
+-- do not fit together
 abbrev pub AsksNoCount : List Row → Type 0
-AsksNoCount rows = AsksNoWalk rows ⊎ (NamesOneTwice rows ⊎ (AsksNoTable rows ⊎ Misfit rows))
+AsksNoCount rows = AsksNoWalk rows ⊎ (NamesOneTwice rows ⊎ (AsksNoTable rows ⊎ (ComparesSides rows ⊎ Misfit rows)))
 
 -- the words that name reports, or `-`, standard input, alone if there are none
 abbrev pub reports_read : List Row → List (List ℕ)
@@ -206,23 +215,26 @@ AreReportsOf rows reports = (map report_model reports ≡ map named_of (reports_
 -- this is the sum that the arguments request; its options may not fit together
 pub record IsSumOf (rows : List Row) (s : SumRequest) : Type 0 where
   pub left_out : IsFlag (codes "left-out") rows s.left_out
+  pub null : IsFlag (codes "null") rows s.null
   pub table : IsWholeTableIn rows s.table
   pub attributes : AreAttributesOf rows s.attributes.items
+  pub one_sided : IsOneSided rows
   pub conditions : AreConditionsOf rows (map (λ attribute. attribute.now) s.attributes.items) s.conditions.items
   pub fail_if_any : IsFlag (codes "fail-if-any") rows s.fail_if_any
   pub reports : AreReportsOf rows s.reports.items
 
 -- this is the requested sum, and its options fit together
 abbrev pub IsFitSumOf : List Row → SumRequest → Type 0
-IsFitSumOf rows s = IsSumOf rows s × (table_fits s.table s.left_out ≡ true)
+IsFitSumOf rows s = IsSumOf rows s × (sum_fits s ≡ true)
 
 -- the arguments request a sum whose options do not fit together
 abbrev pub MisfitSum : List Row → Type 0
-MisfitSum rows = (s : SumRequest) × IsSumOf rows s × (table_fits s.table s.left_out ≡ false)
+MisfitSum rows = (s : SumRequest) × IsSumOf rows s × (sum_fits s ≡ false)
 
--- the arguments request no sum: they have a wrong value, name no report, request no table, or have options that do not fit together
+-- the arguments request no sum: they have a wrong value, name no report, request no table, compare two sides, or have options that do not
+-- fit together
 abbrev pub AsksNoSum : List Row → Type 0
-AsksNoSum rows = Misvalue rows ⊎ (MisnamesReports rows ⊎ (AsksNoTable rows ⊎ MisfitSum rows))
+AsksNoSum rows = Misvalue rows ⊎ (MisnamesReports rows ⊎ (AsksNoTable rows ⊎ (ComparesSides rows ⊎ MisfitSum rows)))
 
 -- this is the difference that the arguments request; its options may not fit together
 pub record IsDiffOf (rows : List Row) (d : DiffRequest) : Type 0 where
@@ -231,6 +243,7 @@ pub record IsDiffOf (rows : List Row) (d : DiffRequest) : Type 0 where
   pub no_share : d.table.share ≡ false
   pub attributes : AreAttributesOf rows d.attributes.items
   pub conditions : AreConditionsOf rows (map (λ attribute. attribute.now) d.attributes.items) d.conditions.items
+  pub changes : d.changes ≡ changes_of (values_read rows Conditions)
   pub fail_if_any : IsFlag (codes "fail-if-any") rows d.fail_if_any
   pub all : IsFlag (codes "all") rows d.all
   pub old : d.old.now ≡ unwrap_or (first_of (codes "OLD") rows) []

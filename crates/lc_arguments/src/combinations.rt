@@ -1,11 +1,13 @@
 //! Options that can't be combined.
 
-ghost use Rattle.std.specs.Prelude.{◌≡◌, is_some, not};
-ghost use Rattle.lc_arguments.specs.Combinations.{asks_for_paths, asks_for_rows, diff_fits, fit_together, is_by_name, is_dash};
-ghost use Rattle.lc_arguments.specs.Combinations.{narrows, paths_fit, reads_input_once, shows_shares, table_fits, takes_input, walk_fits};
+ghost use Rattle.std.specs.Prelude.{◌≡◌, ◌&&◌, is_some, not};
+ghost use Rattle.lc_arguments.specs.Combinations.{asks_for_paths, asks_for_rows, diff_fits, fit_together, has_one_kind, is_by_name};
+ghost use Rattle.lc_arguments.specs.Combinations.{is_dash, narrows, null_fits, paths_fit, picture_fits, reads_input_once};
+ghost use Rattle.lc_arguments.specs.Combinations.{shows_differences, shows_shares, sum_fits, table_fits, takes_input, walk_fits};
 
 use crate::count::CountRequest;
 use crate::diff::DiffRequest;
+use crate::sum::SumRequest;
 use crate::table::TableRequest;
 use crate::walk_request::WalkRequest;
 use lc_sheet::{Columns, Format, Order, Output};
@@ -46,16 +48,28 @@ fn asks_for_rows(table: TableRequest, left_out: bool) -> bool
     table.files || left_out || table.top.is_some() || narrows(table.by)
 }
 
-/// Returns why the options of a table can't be combined, or `None` if they can. `left_out` is whether skipped entries are listed.
-pub(crate) fn table_misfit(table: TableRequest, left_out: bool) -> Option<&'static str>
-    ensures { is_some result ≡ not (table_fits table left_out) }
+/// Returns the error if a format that has records of one kind is to list files and skipped entries.
+fn kinds_misfit(table: TableRequest, left_out: bool) -> Option<&'static str>
+    ensures { is_some result ≡ (table.files && left_out && has_one_kind table.format) }
 {
-    if table.share && !shows_shares(table.format) {
-        return Some("'--share' needs '--format table' or '--format markdown'");
+    if !table.files || !left_out {
+        return None;
     }
-    if table.files && left_out && matches!(table.format, Some(Output::Text(Format::Csv))) {
-        return Some("'--format csv' prints records of one kind: '--files' or '--left-out'");
+    match table.format {
+        Some(Output::Text(Format::Csv)) => {
+            Some("'--format csv' prints records of one kind: '--files' or '--left-out'")
+        }
+        Some(Output::Paths) => {
+            Some("'--format paths' prints paths of one kind: '--files' or '--left-out'")
+        }
+        _ => None,
     }
+}
+
+/// Returns why the options of a picture can't be combined, or `None` if they can.
+fn picture_misfit(table: TableRequest, left_out: bool) -> Option<&'static str>
+    ensures { is_some result ≡ not (picture_fits table left_out) }
+{
     if table.is_picture() && asks_for_rows(table, left_out) {
         return Some(
             "'--format html' draws a tree: no '--files', '--left-out', '--by <COLUMNS>' or '--top <N>'",
@@ -65,6 +79,22 @@ pub(crate) fn table_misfit(table: TableRequest, left_out: bool) -> Option<&'stat
         return Some("'--format html' draws the column of '--sort': files, lines, blank or bytes");
     }
     None
+}
+
+/// Returns why the options of a table can't be combined, or `None` if they can. `left_out` is whether skipped entries are listed.
+fn table_misfit(table: TableRequest, left_out: bool) -> Option<&'static str>
+    ensures { is_some result ≡ not (table_fits table left_out) }
+{
+    if table.share && !shows_shares(table.format) {
+        return Some("'--share' needs '--format table' or '--format markdown'");
+    }
+    if let Some(why) = kinds_misfit(table, left_out) {
+        return Some(why);
+    }
+    if table.is_paths() && table.by.is_some() {
+        return Some("'--format paths' prints no rows, so '--by <COLUMNS>' has no use");
+    }
+    picture_misfit(table, left_out)
 }
 
 /// Returns why the options that choose files can't be combined, or `None` if they can.
@@ -96,6 +126,16 @@ fn paths_misfit(request: &CountRequest<'_>) -> Option<&'static str>
     None
 }
 
+/// Returns the error if there are no paths that `--null` could end.
+fn null_misfit(request: &CountRequest<'_>) -> Option<&'static str>
+    ensures { is_some result ≡ not (null_fits request.now) }
+{
+    if walk_misfit(&request.walk).is_some() && !request.table.is_paths() {
+        return Some("'--null' needs '--only-from <FILE>' or '--format paths'");
+    }
+    None
+}
+
 /// Returns why the options of `lc count` can't be combined, or `None` if they can.
 pub(crate) fn misfit(request: &CountRequest<'_>) -> Option<&'static str>
     ensures { is_some result ≡ not (fit_together request.now) }
@@ -103,10 +143,23 @@ pub(crate) fn misfit(request: &CountRequest<'_>) -> Option<&'static str>
     if let Some(why) = table_misfit(request.table, request.left_out) {
         return Some(why);
     }
-    if let Some(why) = walk_misfit(&request.walk) {
+    if let Some(why) = null_misfit(request) {
         return Some(why);
     }
     paths_misfit(request)
+}
+
+/// Returns why the options of `lc sum` can't be combined, or `None` if they can.
+pub(crate) fn sum_misfit(request: &SumRequest<'_>) -> Option<&'static str>
+    ensures { is_some result ≡ not (sum_fits request.now) }
+{
+    if let Some(why) = table_misfit(request.table, request.left_out) {
+        return Some(why);
+    }
+    if request.null && !request.table.is_paths() {
+        return Some("'--null' needs '--format paths'");
+    }
+    None
 }
 
 fn is_dash(word: &str) -> bool
@@ -138,12 +191,23 @@ fn input_misfit(request: &DiffRequest<'_>) -> Option<&'static str>
     None
 }
 
+/// Returns the error if a format can't show how two sides differ.
+fn format_misfit(format: Option<Output>) -> Option<&'static str>
+    ensures { is_some result ≡ not (shows_differences format) }
+{
+    match format {
+        Some(Output::Picture) => Some("'--format html' shows no differences"),
+        Some(Output::Paths) => Some("'--format paths' shows no differences"),
+        _ => None,
+    }
+}
+
 /// Returns why the options of `lc diff` can't be combined, or `None` if they can.
 pub(crate) fn diff_misfit(request: &DiffRequest<'_>) -> Option<&'static str>
     ensures { is_some result ≡ not (diff_fits request.now) }
 {
-    if request.table.is_picture() {
-        return Some("'--format html' shows no differences");
+    if let Some(why) = format_misfit(request.table.format) {
+        return Some(why);
     }
     if let Some(why) = table_misfit(request.table, false) {
         return Some(why);

@@ -2,7 +2,7 @@
 
 ghost use Rattle.std.specs.Prelude.{◌≡◌, map, option_map};
 ghost use Rattle.lc_arguments.specs.Texts.{after_front};
-ghost use Rattle.lc_arguments.specs.ConditionWords.{can_have, can_have_all};
+ghost use Rattle.lc_arguments.specs.ConditionWords.{can_have, can_have_all, compares_sides, is_change};
 ghost use Rattle.lc_arguments.specs.ConditionWords.{column_among, column_at, comparison_of, condition_columns, condition_of};
 ghost use Rattle.lc_arguments.specs.ConditionWords.{condition_with, is_after_dot, list_condition, number_condition, number_in, operator_at};
 ghost use Rattle.lc_arguments.specs.ConditionWords.{digits_from, is_digit, with_digit, without_spaces};
@@ -40,6 +40,7 @@ fn condition_columns() -> &'static [Column]
         Column::Number(Number::Lines),
         Column::Number(Number::Blank),
         Column::Number(Number::Bytes),
+        Column::Change,
     ]
 }
 
@@ -137,6 +138,12 @@ fn can_have(column: Column, text: &[u8]) -> bool
                 || text == b"nul".as_slice()
         }
         Column::Key(Key::Attribute(_)) => true,
+        Column::Change => {
+            text == b"added".as_slice()
+                || text == b"changed".as_slice()
+                || text == b"removed".as_slice()
+                || text == b"same".as_slice()
+        }
         _ => false,
     }
 }
@@ -228,6 +235,13 @@ fn condition_with(column: Column, comparison: Comparison, values: &[u8]) -> Opti
     }
 }
 
+/// Returns whether a column is `change`, which says what became of a file.
+pub(crate) fn is_change(column: Column) -> bool
+    ensures { result ≡ is_change column }
+{
+    matches!(column, Column::Change)
+}
+
 /// Reads a condition, such as `eol=crlf,mixed` or `lines > 1000`. The places of columns of attributes and of languages are those among
 /// `attributes`.
 pub(crate) fn condition_of<'w>(attributes: &[&str], text: &'w [u8]) -> Option<Condition<'w>>
@@ -236,6 +250,16 @@ pub(crate) fn condition_of<'w>(attributes: &[&str], text: &'w [u8]) -> Option<Co
     let (column, rest) = column_at(attributes, text)?;
     let (comparison, values) = operator_at(without_spaces(rest))?;
     condition_with(column, comparison, without_spaces(values))
+}
+
+/// Returns whether the column of a text is `change`, which compares two sides.
+pub(crate) fn compares_sides(text: &[u8]) -> bool
+    ensures { result ≡ compares_sides text.now }
+{
+    match column_at(&[], text) {
+        None => false,
+        Some((column, _)) => is_change(column),
+    }
 }
 
 /// Returns whether this byte is part of an operator.
@@ -255,6 +279,9 @@ fn values_of(column: Column) -> &'static str {
         Column::Key(Key::Eol) => {
             ": eol takes '=' or '!=', and none, lf, crlf, cr, mixed or nul, separated by commas"
         }
+        Column::Change => {
+            ": change takes '=' or '!=', and added, changed, removed or same, separated by commas"
+        }
         Column::Key(_) =>
             ": an attribute takes '=' or '!=', and values, set, unset or -, separated by commas",
         _ => ": a number has digits alone, and is below 18446744073709551616",
@@ -266,6 +293,9 @@ pub(crate) fn why_no_condition(text: &[u8]) -> &'static str {
     if text.starts_with(b"dir") || text.starts_with(b"path") {
         return ": --only and --include choose directories and paths";
     }
+    if text.starts_with(b"size") {
+        return ": the column of a file's size is bytes";
+    }
     if !text.iter().any(|byte| is_operator_byte(*byte)) {
         return ": it has no operator; quote a condition, as in --where 'lines>1000'";
     }
@@ -274,7 +304,7 @@ pub(crate) fn why_no_condition(text: &[u8]) -> &'static str {
         return ": an attribute's name has letters, digits, '-', '.' and '_', and does not begin with '-'";
     }
     let Some((column, rest)) = column_at(&[], text) else {
-        return ": the columns are lang, ext, text, eol, attr:NAME, lines, blank and bytes";
+        return ": the columns are lang, ext, text, eol, attr:NAME, lines, blank and bytes; lc diff has change, too";
     };
     match operator_at(without_spaces(rest)) {
         None => ": after the column comes one of =, !=, <, <=, > and >=",

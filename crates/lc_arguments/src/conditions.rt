@@ -3,17 +3,29 @@
 ghost use Rattle.std.specs.Prelude.{◌≡◌, ◌∷◌, ◌++◌, [], map, IfOk, OnOk};
 ghost use Rattle.clap.specs.Matches.{found_of};
 ghost use Rattle.clap.specs.Walk.{rows_of};
-ghost use Rattle.lc_arguments.specs.ConditionWords.{all_conditions, conditions_of, not_binary};
+ghost use Rattle.lc_arguments.specs.ConditionWords.{all_conditions, conditions_of, file_condition_of, not_binary};
 ghost use Rattle.lc_arguments.specs.Explained.{AnswersConditions};
 
-use crate::condition_text::condition_of;
+use crate::condition_text::{condition_of, is_change};
 use crate::repeated::{Repeated, values_in};
 use crate::request::ParseExit;
 use clap::ArgMatches;
 use lc_sheet::{Column, Condition, Key, Test};
 use std::alloc::{AllocError, Global};
 
-/// Appends the condition of a text, if the text is a condition.
+/// Reads the condition of a text, unless the condition is on `change`.
+fn file_condition_of<'w>(attributes: &[&str], text: &'w [u8]) -> Option<Condition<'w>>
+    ensures { result ≡ file_condition_of (map (λ attribute. attribute.now) attributes.now) text.entry.now }
+{
+    let condition = condition_of(attributes, text)?;
+    if is_change(condition.column) {
+        None
+    } else {
+        Some(condition)
+    }
+}
+
+/// Appends the condition of a text, unless the text is no condition or the condition is on `change`.
 fn push_condition<'w>(
     attributes: &[&str],
     conditions: &mut Vec<Condition<'w>>,
@@ -22,7 +34,7 @@ fn push_condition<'w>(
     ensures { OnOk result (conditions.new.items
         ≡ conditions.old.items ++ conditions_of (map (λ attribute. attribute.now) attributes.now) (text.entry.now ∷ [])) }
 {
-    if let Some(condition) = condition_of(attributes, text.as_bytes()) {
+    if let Some(condition) = file_condition_of(attributes, text.as_bytes()) {
         conditions.push(condition)?;
     }
     Ok(())
@@ -58,7 +70,7 @@ fn all_conditions<'w>(
     Ok(conditions)
 }
 
-/// Reads the conditions from clap's values. The places of columns of attributes and of languages are those among
+/// Reads the conditions from clap's values, but for those on `change`. The places of columns of attributes and of languages are those among
 /// `attributes`.
 pub(crate) fn conditions_in<'w>(
     alloc: Global,

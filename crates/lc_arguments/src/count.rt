@@ -7,6 +7,7 @@ ghost use Rattle.lc_arguments.specs.Words.{AsksNoCount, IsCountOf};
 ghost use Rattle.lc_arguments.specs.declared.option_row.Subcommand.TheVariants.{Count};
 
 use crate::attributes::attributes_in;
+use crate::changes::one_sided;
 use crate::combinations::misfit;
 use crate::conditions::conditions_in;
 use crate::directories::directories_in;
@@ -49,6 +50,7 @@ fn request_in<'w>(alloc: Global, matches: &ArgMatches<'w>) -> Result<CountReques
     let walk = WalkRequest::read(alloc, matches, numbers)?;
     let directories = directories_in(alloc, matches)?;
     let table = table_in(alloc, matches, numbers.cuts)?;
+    one_sided(alloc, matches)?;
     let attributes = attributes_in(alloc, matches)?;
     let conditions = conditions_in(alloc, matches, &attributes)?;
     Ok(CountRequest {

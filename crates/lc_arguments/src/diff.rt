@@ -7,6 +7,7 @@ ghost use Rattle.lc_arguments.specs.Words.{AsksNoDiff, IsDiffOf};
 ghost use Rattle.lc_arguments.specs.declared.option_row.Subcommand.TheVariants.{Diff};
 
 use crate::attributes::attributes_in;
+use crate::changes::changes_in;
 use crate::combinations::diff_misfit;
 use crate::conditions::conditions_in;
 use crate::numbers::Numbers;
@@ -15,7 +16,7 @@ use crate::request::{ParseExit, unfit};
 use crate::table::{TableRequest, table_in};
 use crate::walk_request::WalkRequest;
 use clap::ArgMatches;
-use lc_sheet::Condition;
+use lc_sheet::{ChangeKinds, Condition};
 use std::alloc::Global;
 use std::convert::AsStr;
 
@@ -24,13 +25,15 @@ use std::convert::AsStr;
 pub struct DiffRequest<'w> {
     /// How to count OLD and NEW, if they are directories.
     pub walk: WalkRequest<'w>,
-    /// How the table is printed: without the rows' shares of the total, and not as a picture.
+    /// How the table is printed: without the rows' shares of the total, and neither as a picture nor as paths.
     pub table: TableRequest,
     /// The names of the columns of attributes, such as `attr:team`, and of languages, `lang`: first those of `--by`, of which `lang` is the
     /// first, and then the others that conditions test.
     pub attributes: Vec<&'w str>,
-    /// Compare only files that meet all of these conditions.
+    /// Compare only files that meet all of these conditions. No condition is on `change`.
     pub conditions: Vec<Condition<'w>>,
+    /// The kinds of files that all conditions on `change` allow: [`ChangeKinds::ALL`] if there is no such condition.
+    pub changes: ChangeKinds,
     /// Exit with status 4 if OLD and NEW differ in a row of the table or, with `--files`, in a file.
     pub fail_if_any: bool,
     /// Also print rows in which nothing changed.
@@ -58,6 +61,7 @@ fn request_in<'w>(alloc: Global, matches: &ArgMatches<'w>) -> Result<DiffRequest
         },
         attributes,
         conditions,
+        changes: changes_in(matches),
         fail_if_any: matches.get_flag("fail-if-any"),
         all: matches.get_flag("all"),
         old: matches.get_str("OLD").unwrap_or(""),

@@ -2,7 +2,18 @@
 //! whose help for `lc diff` differs from the argument's help for other commands.
 
 use crate::option_row::{Completes, DIFF, FLAG, Kind, OptionRow};
-use crate::options_table::WHAT_IS_PRINTED;
+use crate::options_table::{WHAT_IS_PRINTED, WHICH_FILES};
+
+/// The option `--null`, with which each path that is read ends with NUL.
+pub(crate) const NULL: OptionRow = OptionRow {
+    name: "null",
+    short: Some('0'),
+    of: DIFF,
+    heading: WHICH_FILES,
+    help: "Paths of --only-from end with NUL",
+    brief: "Paths that are read end with NUL",
+    ..FLAG
+};
 
 /// The option `--all`, which also prints rows in which nothing changed.
 pub(crate) const ALL: OptionRow = OptionRow {
@@ -22,7 +33,19 @@ pub(crate) const FILES: OptionRow = OptionRow {
     ..FLAG
 };
 
-/// The option `--format`, which has all formats of `lc count` except for `html`.
+/// The option `--where`, whose conditions may be on `change`.
+pub(crate) const WHERE: OptionRow = OptionRow {
+    name: "where",
+    value: "CONDITION",
+    kind: Kind::Texts,
+    of: DIFF,
+    heading: WHAT_IS_PRINTED,
+    help: "Compare only files that meet CONDITION, such as change=added",
+    brief: "Compare only files that meet a condition",
+    ..FLAG
+};
+
+/// The option `--format`, which has all formats of `lc count` except for `html` and `paths`.
 pub(crate) const FORMAT: OptionRow = OptionRow {
     name: "format",
     value: "FORMAT",

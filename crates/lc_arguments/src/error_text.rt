@@ -2,6 +2,7 @@
 
 ghost use Rattle.lc_arguments.specs.Naming.{IsFirstParagraph};
 
+use crate::near::near_name;
 use crate::option_row::{Completes, Kind, OptionRow};
 use crate::options_table::options;
 use crate::suggestions::Advice;
@@ -77,23 +78,50 @@ pub(crate) fn value_refused(
         "error: invalid value '{value}' for '--{option} <{name}>'{why}"
     )?;
     push_possible(&mut text, completes)?;
-    push_meant(&mut text, option, value)?;
+    push_meant(&mut text, alloc, option, value, completes)?;
     text.push_str("\n\nFor more information, try '--help'.\n")?;
     Ok(text)
 }
 
-/// Words that people type for columns, and the names of these columns.
-const MEANT: &[(&str, &str)] = &[
-    ("directory", "dir"),
-    ("extension", "ext"),
-    ("language", "lang"),
+/// Options, values that people type for them, and what to write instead.
+const MEANT: &[(&str, &str, &str)] = &[
+    ("by", "directory", "--by dir"),
+    ("by", "directories", "--by dir"),
+    ("by", "dirs", "--by dir"),
+    ("by", "folder", "--by dir"),
+    ("by", "extension", "--by ext"),
+    ("by", "extensions", "--by ext"),
+    ("by", "language", "--by lang"),
+    ("by", "languages", "--by lang"),
+    ("by", "file", "--files"),
+    ("by", "files", "--files"),
+    ("format", "md", "--format markdown"),
+    ("format", "text", "--format table"),
+    ("format", "txt", "--format table"),
+    ("format", "plain", "--format tsv"),
+    ("format", "yaml", "--format json"),
+    ("sort", "code", "--sort lines"),
+    ("sort", "loc", "--sort lines"),
+    ("sort", "size", "--sort bytes"),
+    ("sort", "path", "--sort name"),
 ];
 
-/// Appends a tip if the value of `--by` is a word for a column.
-fn push_meant(text: &mut String, option: &str, value: &str) -> Result<(), AllocError> {
-    for (word, name) in MEANT {
-        if option == "by" && value == *word {
-            write!(text, "\n\n  tip: write '--by {name}'")?;
+/// Appends a tip if the value of an option is a word for another value, or close to one of the possible values.
+fn push_meant(
+    text: &mut String,
+    alloc: Global,
+    option: &str,
+    value: &str,
+    completes: Completes,
+) -> Result<(), AllocError> {
+    for (name, word, meant) in MEANT {
+        if option == *name && value == *word {
+            return write!(text, "\n\n  tip: write '{meant}'");
+        }
+    }
+    if let Completes::Meanings(words) = completes {
+        if let Some((near, _)) = near_name(alloc, value, words)? {
+            write!(text, "\n\n  tip: write '--{option} {near}'")?;
         }
     }
     Ok(())

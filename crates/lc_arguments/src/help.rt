@@ -96,7 +96,7 @@ fault (what could not be read). man lc and docs/OUTPUT.md describe each.
 
 Exit status:
   0  everything was counted
-  1  the table was written, but something could not be read
+  1  the table was written, but something could not be read or printed
   2  usage error
   3  no table, or a part of it; standard error shows why
   4  --fail-if-any: the table was written, and a file was counted
@@ -114,6 +114,7 @@ Examples:
   lc count --by dir --depth 2 --share .
   lc count src ../lib
   lc count --format csv --files .
+  lc count --format paths -0 --where ext=.c . | xargs -0 wc
   lc count -j 8 src
   lc count --exclude '*.min.js' --include '*.js' .
   lc count --only src --only doc .
@@ -137,14 +138,14 @@ paths can be added. It is what is before the first = if no slash is before that:
 ./a=b is a file without a NAME.
 
 Without --by, rows are by those of ext, text and eol that every REPORT has.
---files, --by dir, --format html and a condition on a number need reports that
-were counted with --files, --by attr:NAME and a condition on attr:NAME those
-counted with --files --by attr:NAME, lang those counted with --files --by lang,
-and --left-out those counted with --left-out.
+--files, --by dir, --format html or paths and a condition on a number need
+reports that were counted with --files, --by attr:NAME and a condition on
+attr:NAME those counted with --files --by attr:NAME, lang those counted with
+--files --by lang, and --left-out those counted with --left-out.
 
 Exit status:
   0  everything was added, and no REPORT lists what could not be read
-  1  the table was written, but a REPORT lists what could not be read
+  1  the table was written, but a REPORT lists errors, or a path was not printed
   2  usage error
   3  no table, or a part of it; standard error shows why
   4  --fail-if-any: the table was written, and it has a file
@@ -166,10 +167,10 @@ that lc sum reads; - is a report on standard input. Options that choose files
 hold for directories; --where holds for both sides.
 
 Each row has the old and the new number of files, lines, blank lines and bytes;
-in table and markdown, the new numbers and how they changed. A row in which no
-number changed is not printed, except with --all. Paths are compared as they
-are. Lines that were added and lines that were removed within a file are not
-told apart.
+in table and markdown, the new numbers and their changes, and in per cent the
+change of the number that rows are sorted by. A row in which no number changed
+is not printed, except with --all. Paths are compared as they are. Lines that
+were added and lines that were removed within a file are not told apart.
 
 Exit status:
   0  both sides were read, whether or not they differ
@@ -181,6 +182,7 @@ Exit status:
 Examples:
   lc diff v1 v2
   lc diff --files v1.json .
+  lc diff --where 'lines>1000' --where change=added --fail-if-any v1 v2
   lc count --format json --files . | lc diff --by dir v1.json -",
 };
 
@@ -262,9 +264,9 @@ For each name and each end of names that the list has, lc prints a line of a
 
   *.c linguist-language=C
 
-lc count --by lang takes a file's language from its attribute linguist-language,
-or else from this list. Put the lines that you change into .gitattributes, for
---by lang and for GitHub.
+lc count --by lang reads the language of a file from its attribute
+linguist-language, or else from this list. Put the lines that you change into
+.gitattributes, for --by lang and for GitHub.
 
 Exit status:
   0  the list was printed

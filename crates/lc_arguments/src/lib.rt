@@ -16,6 +16,7 @@
 //! - `attributes`: the attributes that `--by` and `--where` name
 //! - `conditions`: the conditions of `--where` and `--no-binary`
 //! - `condition_text`: the text of one condition
+//! - `changes`: the conditions of `--where` on `change`
 //! - `repeated`: the values of options that may be used several times
 //! - `numbers`: the values of options that take numbers
 //! - `limits`: the greatest values of the options that take numbers
@@ -31,11 +32,13 @@
 //! - `refusals`: escaping the texts of usage errors for a terminal
 //! - `naming`: checking that the help of a command names each argument of the command, and that a usage error names an argument
 //! - `suggestions`: commands that refused arguments may have meant
+//! - `other_tools`: options and words of other tools, and what they may have meant
 //! - `near`: names of commands and options that are close to a typed word
 #![tactic(auto)]
 
 mod arguments;
 mod attributes;
+mod changes;
 mod check;
 mod combinations;
 mod condition_text;
@@ -56,6 +59,7 @@ mod near;
 mod numbers;
 mod option_row;
 mod options_table;
+mod other_tools;
 mod paths;
 mod refusals;
 mod repeated;

@@ -67,12 +67,15 @@ repeated. lc count takes only one DIR then",
         WHICH_FILES,
         "Count only what is at or under the paths in FILE, as --only counts
 them. They come one a line; FILE - is standard input. Paths may begin
-with ./, as find prints them",
+with ./, as find prints them. If FILE has none, and there is no
+--only, no file is counted",
     ),
     (
         "null",
         WHICH_FILES,
-        "The paths of --only-from end with NUL, as git ls-files -z prints them",
+        "The paths of --only-from and of --format paths end with NUL, as
+git ls-files -z prints paths and xargs -0 reads them. Without --null,
+--format paths does not print a path with a line feed",
     ),
     (
         "one-file-system",
@@ -109,18 +112,20 @@ a terminal; tsv separates fields by tabs and is the default
 elsewhere; json is for programs; csv has one kind of record and no
 totals, for databases and spreadsheets; markdown is for a page on
 GitHub; html is a page for a browser with a box for each directory
-that has a thousandth of the lines or more",
+that has a thousandth of the lines or more; paths prints the path of
+each counted file, relative to DIR, for other programs, or with
+--left-out that of each skipped entry",
     ),
     (
         "by",
         WHAT_IS_PRINTED,
         "Sum rows by some of dir, lang, ext, text, eol and attr:NAME, separated
-by commas: --by ext prints one row for each extension, --by dir one
-for the files of DIR itself and one for each directory right under
-DIR, or as deep as --depth says, --by attr:team one for each state of
-the Git attribute team; at most 16 attributes. lang is the language of
-the file: the value of its attribute linguist-language, or else what
-the list of lc languages says of its name",
+by commas. dir is the directory: DIR itself, and each directory right
+under DIR, or as deep as --depth says. lang is the language of the
+file: the value of its attribute linguist-language, or else its
+language in the list that lc languages prints. ext is the extension.
+text is the attribute text. eol is how the lines end. attr:team is the
+state of the Git attribute team; at most 16 attributes",
     ),
     (
         "depth",
@@ -146,7 +151,8 @@ lc sum print those with the most lines",
         "share",
         WHAT_IS_PRINTED,
         "Show each row's share of the total: of the column of --sort, or of
-lines. The default format is then table; markdown has shares, too",
+lines. The default format is then table; markdown has shares, too. If
+a row is over 80 columns, bars are shorter, or there are none",
     ),
     (
         "fail-if-any",
@@ -169,6 +175,12 @@ and its pattern; - and - if no rule decides",
     ),
     (
         "null",
+        WHAT_IS_PRINTED,
+        "The paths of --format paths end with NUL, as xargs -0 reads them.
+Without --null, a path with a line feed is not printed",
+    ),
+    (
+        "null",
         ON_INPUT,
         "The paths on standard input end with NUL, as git ls-files -z prints
 them, so that a path may contain a line feed",
@@ -186,8 +198,24 @@ const OF_DIFFERENCES: &[(&str, &str, &str)] = &[
         "files",
         WHAT_IS_PRINTED,
         "Also print a line for each file that was added, removed or changed.
-A file that moved is removed and added. A file with the same attribute
-text, line ends and numbers as before is not seen to change",
+A file that moved is removed and added. A file is changed if its
+attribute text, its line ends, its numbers, or its value in a column
+lang or attr:NAME of --by differs",
+    ),
+    (
+        "null",
+        WHICH_FILES,
+        "The paths of --only-from end with NUL, as git ls-files -z prints them",
+    ),
+    (
+        "where",
+        WHAT_IS_PRINTED,
+        "Compare only files that meet CONDITION, such as ext=.c,.h or eol!=lf
+or 'lines>1000', in quotes. The columns are lang, ext, text, eol,
+attr:NAME, lines, blank and bytes; the operators = and !=, and for
+numbers <, <=, > and >=. May be repeated; all must hold, on each side.
+Then change=added,changed chooses files by what became of them: added,
+changed, removed or same. Reports must list files for that",
     ),
     (
         "format",

@@ -128,13 +128,13 @@ const OPTIONS: &[OptionRow] = &[
     OptionRow {
         name: "null",
         short: Some('0'),
-        of: WALKS,
         heading: WHICH_FILES,
-        help: "Paths of --only-from end with NUL",
-        brief: "Paths that are read end with NUL",
+        help: "Paths of --only-from and --format paths end with NUL",
+        brief: "Paths that are read or printed end with NUL",
         example: "find . -print0 | lc count --only-from - -0 .",
         ..FLAG
     },
+    diff_options::NULL,
     OptionRow {
         name: "one-file-system",
         short: Some('x'),
@@ -165,7 +165,7 @@ const OPTIONS: &[OptionRow] = &[
         name: "where",
         value: "CONDITION",
         kind: Kind::Texts,
-        of: TABLES,
+        of: PRINTED,
         heading: WHAT_IS_PRINTED,
         help: "Show only files that meet CONDITION, such as 'lines>1000'",
         brief: "Show only files that meet a condition",
@@ -186,7 +186,7 @@ const OPTIONS: &[OptionRow] = &[
         kind: Kind::Text,
         of: PRINTED,
         heading: WHAT_IS_PRINTED,
-        help: "tsv, table, json, csv, markdown or html",
+        help: "tsv, table, json, csv, markdown, html or paths",
         brief: "How to print",
         example: "lc count --format table .",
         completes: Completes::Meanings(&[
@@ -196,6 +196,7 @@ const OPTIONS: &[OptionRow] = &[
             ("csv", "Records of one kind"),
             ("markdown", "Tables for a page"),
             ("html", "A picture for a browser"),
+            ("paths", "Paths for xargs"),
         ]),
         ..FLAG
     },
@@ -263,6 +264,14 @@ const OPTIONS: &[OptionRow] = &[
         ..FLAG
     },
     OptionRow {
+        name: "null",
+        short: Some('0'),
+        of: SUM,
+        heading: WHAT_IS_PRINTED,
+        help: "Paths of --format paths end with NUL",
+        ..FLAG
+    },
+    OptionRow {
         name: "fail-if-any",
         of: PRINTED,
         heading: WHAT_IS_PRINTED,
@@ -312,6 +321,7 @@ const OPTIONS: &[OptionRow] = &[
     },
     diff_options::ALL,
     diff_options::FILES,
+    diff_options::WHERE,
     diff_options::FORMAT,
     diff_options::BY,
     diff_options::SORT,

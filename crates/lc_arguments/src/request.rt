@@ -87,7 +87,8 @@ fn command<'a>(alloc: Global) -> Result<Command<'a>, AllocError>
     command.subcommands(subcommands)
 }
 
-/// Makes the text of an error of clap. If an argument is missing or unknown, the text has the usage of the command and advice.
+/// Makes the text of an error of clap. If an argument or a value is missing, or an argument is unknown, the text has the usage of the
+/// command and advice.
 fn text_of(
     alloc: Global,
     error: &Error,
@@ -97,6 +98,7 @@ fn text_of(
     let text = format!(in alloc; "{error}")?;
     match error.kind() {
         ErrorKind::MissingRequiredArgument
+        | ErrorKind::InvalidValue
         | ErrorKind::InvalidSubcommand
         | ErrorKind::UnknownArgument => advised(alloc, problem_of(&text), usage, advice),
         ErrorKind::ValueValidation => number_refused(alloc, &text),

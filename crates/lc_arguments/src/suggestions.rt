@@ -1,9 +1,13 @@
-//! If arguments are refused, suggests a command that the user may have meant. The program accepts the arguments of each suggested command.
+//! If arguments are refused, suggests a command that the user may have meant. The program accepts the arguments of
+//! each suggested command, except those that `command_moved` takes from the command line.
 
 use crate::near::near_name;
-use crate::option_row::{Completes, Subcommand};
+use crate::option_row::Subcommand;
 use crate::options_table::options;
-use lc_text::{push_quoted, push_visible};
+use crate::other_tools::{
+    VERSION, example_meant, is_shown_as_typed, needless, pair_meant, word_meant,
+};
+use lc_text::push_quoted;
 use std::alloc::{AllocError, Global};
 use std::convert::AsStr;
 
@@ -24,9 +28,6 @@ const DIFF: &str = "lc diff . .";
 
 /// The list of languages.
 const LANGUAGES: &str = "lc languages";
-
-/// How to show the version.
-const VERSION: &str = "lc --version";
 
 /// The commands, each with an example.
 const COMMANDS: &[(&str, &str)] = &[
@@ -64,86 +65,26 @@ fn with_tip(alloc: Global, tip: String, command: &str) -> Result<Advice, AllocEr
     })
 }
 
-/// Finds the command that an unknown word may have meant. The function knows words that other tools use.
-fn word_meant(word: &str) -> Option<&'static str> {
-    match word {
-        "-v" | "-V" | "--version" | "version" => Some(VERSION),
-        "--json" | "json" => Some("lc count --format json ."),
-        "--csv" | "csv" => Some("lc count --format csv ."),
-        "--markdown" | "--md" | "markdown" => Some("lc count --format markdown ."),
-        "--html" | "html" => Some("lc count --format html ."),
-        "--table" | "table" => Some("lc count --format table ."),
-        "--tsv" | "tsv" => Some("lc count --format tsv ."),
-        "-a" | "--all" | "--no-gitignore" | "--no-vcs-ignore" => Some("lc count --no-ignore ."),
-        "--xdev" | "--same-file-system" => Some("lc count --one-file-system ."),
-        "--dir" | "--dirs" | "--by-dir" => Some("lc count --by dir ."),
-        "--max-depth" => Some("lc count --by dir --depth 2 ."),
-        "--by-ext" => Some("lc count --by ext ."),
-        "--by-lang" | "--lang" | "--language" => Some("lc count --by lang ."),
-        "--text" => Some("lc count --by ext,text ."),
-        "--by-file" | "-f" => Some("lc count --files ."),
-        "--exit-code" | "--fail" => Some("lc count --where 'lines>1000' --fail-if-any ."),
-        _ => None,
-    }
-}
-
-/// Finds the command that an unknown option may have meant.
-fn option_meant(option: &str) -> Option<&'static str> {
-    if option.starts_with('-') {
-        word_meant(option)
-    } else {
-        None
-    }
-}
-
-fn is_format_option(word: &str) -> bool {
-    matches!(word, "-f" | "-o" | "--output")
-}
-
-/// Returns whether a word is a value of `--format`.
-fn is_format(word: &str) -> bool {
+/// Returns the example of the option of `lc count` that lacks its value, which clap's message quotes as in `--by <COLUMNS>`.
+fn example_of(quoted: &str) -> Option<&'static str> {
+    let (option, _) = quoted.split_once(" <")?;
     for row in options() {
-        if let ("format", Completes::Meanings(formats)) = (row.name, row.completes) {
-            return formats.iter().any(|(format, _)| *format == word);
+        if row.of.has(Subcommand::Count) && option.strip_prefix("--") == Some(row.name) {
+            return Some(row.example);
         }
     }
-    false
+    None
 }
 
-fn is_extension_option(word: &str) -> bool {
-    matches!(word, "-e" | "--ext" | "--extension" | "-t" | "--type")
-}
-
-fn is_extension(word: &str) -> bool {
-    !word.is_empty() && word.bytes().all(|byte| byte.is_ascii_alphanumeric())
-}
-
-/// Finds the count that an option of another tool and the argument after it may have meant, such as `-e py`, `--ext .c` or `-f json`.
-fn pair_meant<W: AsStr>(alloc: Global, words: &[W]) -> Result<Option<String>, AllocError> {
-    for pair in words.windows(2) {
-        if let [option, value] = pair {
-            let value = value.as_str();
-            if is_extension_option(option.as_str()) && is_extension(value) {
-                return Ok(Some(format!(in alloc; "lc count --include '*.{value}' .")?));
-            }
-            if is_extension_option(option.as_str())
-                && is_extension(value.strip_prefix(".").unwrap_or(""))
-            {
-                return Ok(Some(format!(in alloc; "lc count --where ext={value} .")?));
-            }
-            if is_format_option(option.as_str()) && is_format(value) {
-                return Ok(Some(format!(in alloc; "lc count --format {value} .")?));
-            }
-        }
+/// Finds the command that an unknown option, or an option without a value, may have meant.
+fn option_meant(option: &str) -> Option<&'static str> {
+    if !option.starts_with('-') {
+        return None;
     }
-    Ok(None)
-}
-
-/// Returns whether a terminal shows an argument unchanged, so that it can be typed again.
-fn is_shown_as_typed(alloc: Global, word: &str) -> Result<bool, AllocError> {
-    let mut shown = String::new(alloc);
-    push_visible(&mut shown, word.as_bytes())?;
-    Ok(shown.as_str() == word)
+    match word_meant(option) {
+        Some(meant) => Some(meant),
+        None => example_of(option),
+    }
 }
 
 /// Returns the refused argument, or the part of it, that clap's message quotes.
@@ -175,6 +116,7 @@ fn known_options(
         }
     }
     known.push(("version", VERSION))?;
+    known.push(("help", "lc --help"))?;
     Ok(known)
 }
 
@@ -197,20 +139,6 @@ fn option_or(
     with_tip(alloc, tip, meant)
 }
 
-/// Returns a tip for an unknown option that asks for what the program does anyway.
-fn needless(option: &str) -> Option<&'static str> {
-    match option {
-        "--hidden" => Some("names that begin with a dot are counted without an option"),
-        "--recursive" | "-r" | "-R" => Some(
-            "all directories under DIR are counted without an option",
-        ),
-        "--color" | "--no-color" | "--colour" | "--no-colour" => Some(
-            "nothing is printed in color",
-        ),
-        _ => None,
-    }
-}
-
 /// Makes the advice for refused arguments of `lc count`: a count that the user may have meant. `problem` is clap's message.
 ///
 /// ```
@@ -226,6 +154,9 @@ fn count<W: AsStr>(alloc: Global, words: &[W], problem: &str) -> Result<Advice, 
     }
     if let Some(tip) = needless(quoted(problem)) {
         return with_tip(alloc, String::from_str(alloc, tip)?, COUNT);
+    }
+    if let Some(meant) = example_meant(quoted(problem)) {
+        return example(alloc, meant);
     }
     option_or(alloc, quoted(problem), Subcommand::Count, COUNT)
 }
@@ -257,6 +188,41 @@ fn explanation_meant<W: AsStr>(alloc: Global, words: &[W]) -> Result<Option<Stri
     Ok(Some(command))
 }
 
+/// Finds the command that comes after its arguments, as in `a.json b.json sum`, and makes the command with its arguments after it.
+fn command_moved<W: AsStr>(alloc: Global, words: &[W]) -> Result<Option<String>, AllocError> {
+    for (name, _) in COMMANDS {
+        if words.iter().any(|word| word.as_str() == *name) {
+            let mut command = format!(in alloc; "lc {name}")?;
+            return if push_others(&mut command, alloc, words, name)? {
+                Ok(Some(command))
+            } else {
+                Ok(None)
+            };
+        }
+    }
+    Ok(None)
+}
+
+/// Appends the arguments that are not this name, and returns whether a terminal shows all of them unchanged.
+fn push_others<W: AsStr>(
+    text: &mut String,
+    alloc: Global,
+    words: &[W],
+    name: &str,
+) -> Result<bool, AllocError> {
+    for word in words {
+        let word = word.as_str();
+        if !is_shown_as_typed(alloc, word)? {
+            return Ok(false);
+        }
+        if word != name {
+            text.push_str(" ")?;
+            push_quoted(text, word)?;
+        }
+    }
+    Ok(true)
+}
+
 /// Makes the advice for arguments of which the first, `first`, is no command: a command that the user may have meant.
 pub(crate) fn command<W: AsStr>(
     alloc: Global,
@@ -276,7 +242,10 @@ pub(crate) fn command<W: AsStr>(
         return option_or(alloc, first, Subcommand::Count, COUNT);
     }
     let Some((name, meant)) = near_name(alloc, first, COMMANDS)? else {
-        return count_of(alloc, first);
+        return match command_moved(alloc, words)? {
+            Some(command) => example(alloc, &command),
+            None => count_of(alloc, first),
+        };
     };
     let tip = format!(in alloc; "a similar command exists: '{name}'")?;
     with_tip(alloc, tip, meant)

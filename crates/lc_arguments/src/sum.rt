@@ -1,14 +1,14 @@
 //! The command line of `lc sum`.
 
-ghost use Rattle.std.specs.Prelude.{◌≡◌, is_some, map, not};
+ghost use Rattle.std.specs.Prelude.{map};
 ghost use Rattle.clap.specs.Matches.{found_of};
-ghost use Rattle.lc_arguments.specs.Combinations.{table_fits};
 ghost use Rattle.lc_arguments.specs.Explained.{AnswersSumWords, AnswersIn};
 ghost use Rattle.lc_arguments.specs.Words.{AsksNoSum, IsSumOf};
 ghost use Rattle.lc_arguments.specs.declared.option_row.Subcommand.TheVariants.{Sum};
 
 use crate::attributes::attributes_in;
-use crate::combinations::table_misfit;
+use crate::changes::one_sided;
+use crate::combinations::sum_misfit;
 use crate::conditions::conditions_in;
 use crate::numbers::Cuts;
 use crate::option_row::Subcommand;
@@ -25,6 +25,8 @@ use std::convert::AsStr;
 pub struct SumRequest<'w> {
     /// List each skipped entry, and print the number of all entries, skipped ones included.
     pub left_out: bool,
+    /// Each path that `--format paths` prints ends with NUL.
+    pub null: bool,
     /// How the table is printed.
     pub table: TableRequest,
     /// The names of the columns of attributes, such as `attr:team`, and of languages, `lang`: first those of `--by`, of which `lang` is the
@@ -39,30 +41,25 @@ pub struct SumRequest<'w> {
     pub reports: Vec<NamedReport<'w>>,
 }
 
-/// Reads the options from clap's values, and refuses wrong values. `misfit` then finds options that can't be combined.
+/// Reads the options from clap's values, and refuses wrong values. `sum_misfit` then finds options that can't be combined.
 fn request_in<'w>(alloc: Global, matches: &ArgMatches<'w>) -> Result<SumRequest<'w>, ParseExit>
     ensures { AnswersIn Sum IsSumOf AsksNoSum (found_of matches.now) result }
 {
     let cuts = Cuts::read(matches);
     let table = table_in(alloc, matches, cuts)?;
+    one_sided(alloc, matches)?;
     let attributes = attributes_in(alloc, matches)?;
     let conditions = conditions_in(alloc, matches, &attributes)?;
     let reports = reports_in(alloc, matches)?;
     Ok(SumRequest {
         left_out: matches.get_flag("left-out"),
+        null: matches.get_flag("null"),
         table,
         attributes,
         conditions,
         fail_if_any: matches.get_flag("fail-if-any"),
         reports,
     })
-}
-
-/// Returns why the options of `lc sum` can't be combined, or `None` if they can.
-fn misfit(request: &SumRequest<'_>) -> Option<&'static str>
-    ensures { is_some result ≡ not (table_fits request.now.table request.now.left_out) }
-{
-    table_misfit(request.table, request.left_out)
 }
 
 impl<'w> SumRequest<'w> {
@@ -78,7 +75,7 @@ impl<'w> SumRequest<'w> {
             Ok(request) => request,
             Err(no) => return Err(no),
         };
-        match misfit(&request) {
+        match sum_misfit(&request) {
             None => Ok(request),
             Some(why) => Err(unfit(alloc, why)),
         }

@@ -8,12 +8,12 @@ ghost use Rattle.lc_sheet.specs.declared.table_options.Columns.{Columns as Colum
 ghost use Rattle.lc_sheet.specs.declared.table_options.Order.{Order as OrderModel};
 ghost use Rattle.lc_sheet.specs.declared.table_options.Output.{Output as OutputModel};
 ghost use Rattle.lc_sheet.specs.Keys.{key_name};
-ghost use Rattle.lc_arguments.specs.Combinations.{is_picture};
+ghost use Rattle.lc_arguments.specs.Combinations.{is_paths, is_picture};
 ghost use Rattle.lc_arguments.specs.Explained.{AnswersColumns, AnswersFormat, AnswersSort, AnswersTable, AnswersTableIn, IsRefusal};
 ghost use Rattle.lc_arguments.specs.TableWords.{IsColumnsText, IsKeyAfter, IsNoKeyAfter, default_order, is_fixed, is_for_reading};
 ghost use Rattle.lc_arguments.specs.TableWords.{is_key_name, max_columns, number_of};
 ghost use Rattle.lc_arguments.specs.Texts.{comma};
-ghost use Rattle.lc_arguments.specs.TableWords.{options_in, order_in, order_word, output_in, output_word};
+ghost use Rattle.lc_arguments.specs.TableWords.{lists_files, options_in, order_in, order_word, output_in, output_word};
 
 use crate::attributes::{is_named, names_column};
 use crate::numbers::Cuts;
@@ -87,6 +87,20 @@ impl TableRequest {
         matches!(self.format, Some(Output::Picture))
     }
 
+    /// Returns whether `--format` names paths.
+    pub fn is_paths(self) -> bool
+        ensures { result ≡ is_paths self.format }
+    {
+        matches!(self.format, Some(Output::Paths))
+    }
+
+    /// Returns whether files are listed: `--files` is used, or the format is that of paths.
+    pub fn lists_files(self) -> bool
+        ensures { result ≡ lists_files self }
+    {
+        self.files || self.is_paths()
+    }
+
     /// Returns the order of rows and files of an output: the named order, or the default order.
     fn order_in(self, output: Output) -> Order
         ensures { result ≡ order_in output self }
@@ -106,7 +120,7 @@ impl TableRequest {
             by: self.by.unwrap_or(columns),
             sort: number_of(self.order_in(output)),
             top: self.top,
-            files: self.files,
+            files: self.lists_files(),
             share: self.share,
         }
     }
@@ -123,6 +137,7 @@ fn output_named(name: &str) -> Option<Output>
         "csv" => Some(Output::Text(Format::Csv)),
         "markdown" => Some(Output::Text(Format::Markdown)),
         "html" => Some(Output::Picture),
+        "paths" => Some(Output::Paths),
         _ => None,
     }
 }

@@ -25,7 +25,7 @@ pub struct WalkRequest<'w> {
     pub only: Vec<&'w [u8]>,
     /// The path of a file with further paths to count, as it was typed. `-` is standard input.
     pub only_from: Option<&'w str>,
-    /// Each path in the file of `only_from` ends with NUL.
+    /// Each path in the file of `only_from`, and each path that `--format paths` prints, ends with NUL.
     pub null: bool,
     /// Skip directories that are on another file system than DIR.
     pub one_file_system: bool,

@@ -39,6 +39,15 @@ const CONDITIONS: &[Case] = &[
 
 const REFUSED: &[Case] = &[
     ("", ": it has no operator; quote a condition"),
+    (
+        "change=added",
+        ": change compares two sides, as lc diff does; the columns are",
+    ),
+    (
+        "change!=gone",
+        ": change compares two sides, as lc diff does; the columns are",
+    ),
+    ("size>1", ": the column of a file's size is bytes"),
     ("lines", ": it has no operator; quote a condition"),
     (
         "=.c",

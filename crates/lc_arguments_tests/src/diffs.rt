@@ -25,6 +25,26 @@ const DIFFS: &[Case] = &[
         "diff a -: 4 threads, 65536 directories, no format by dir to 2, 2 conditions, any difference fails",
     ),
     (
+        "diff --where change=added,changed --where lines>9 a b",
+        "diff a b: 4 threads, 65536 directories, no format by no columns, 1 conditions, keeps added changed",
+    ),
+    (
+        "diff --where change!=added --where change!=same a b",
+        "diff a b: 4 threads, 65536 directories, no format by no columns, keeps changed removed",
+    ),
+    (
+        "diff --where change=added --where change=removed a b",
+        "diff a b: 4 threads, 65536 directories, no format by no columns, keeps",
+    ),
+    (
+        "diff --where change!=added,changed,removed,same a b",
+        "diff a b: 4 threads, 65536 directories, no format by no columns, keeps",
+    ),
+    (
+        "diff --where change=same,removed,changed,added a b",
+        "diff a b: 4 threads, 65536 directories, no format by no columns",
+    ),
+    (
         "diff --only-from - -0 a b",
         "diff a b: 4 threads, 65536 directories, no format by no columns, only from - ended by NUL",
     ),
@@ -74,6 +94,26 @@ const REFUSED: &[Case] = &[
     (
         "diff --format html a b",
         "refused: error: '--format html' shows no differences\n",
+    ),
+    (
+        "diff --format paths a b",
+        "refused: error: '--format paths' shows no differences\n",
+    ),
+    (
+        "diff --where change=new a b",
+        "refused: error: invalid value 'change=new' for '--where <CONDITION>': change takes '=' or '!=', and added,",
+    ),
+    (
+        "diff --where change=added, a b",
+        "refused: error: invalid value 'change=added,' for '--where <CONDITION>': change takes '=' or '!='",
+    ),
+    (
+        "diff --where change<added a b",
+        "refused: error: invalid value 'change<added' for '--where <CONDITION>': change takes '=' or '!='",
+    ),
+    (
+        "diff --where change a b",
+        "refused: error: invalid value 'change' for '--where <CONDITION>': it has no operator",
     ),
     (
         "diff --null a b",

@@ -45,6 +45,14 @@ const COUNTS: &[Case] = &[
         "count .: 4 threads, 65536 directories, no format by no columns, only from - ended by NUL",
     ),
     (
+        "count --format paths -0 .",
+        "count .: 4 threads, 65536 directories, Paths by no columns ended by NUL",
+    ),
+    (
+        "count --format paths --left-out --sort bytes --top 3 .",
+        "count .: 4 threads, 65536 directories, Paths by no columns sorted by Largest(Bytes), first 3, left out",
+    ),
+    (
         "count --by ext,dir --format markdown --share .",
         "count .: 4 threads, 65536 directories, Text(Markdown) by dir to 1 ext, shares",
     ),
@@ -252,11 +260,42 @@ const EXITS: &[Case] = &[
     ),
     (
         "count --null .",
-        "refused: error: '--null' needs '--only-from <FILE>'",
+        "refused: error: '--null' needs '--only-from <FILE>' or '--format paths'\n",
+    ),
+    (
+        "count --format paths --by ext .",
+        "refused: error: '--format paths' prints no rows, so '--by <COLUMNS>' has no use\n",
+    ),
+    (
+        "count --format paths --depth 2 .",
+        "refused: error: '--depth <N>' needs '--by dir'",
+    ),
+    (
+        "count --format paths --share .",
+        "refused: error: '--share' needs '--format table' or '--format markdown'",
+    ),
+    (
+        "count --format paths --files --left-out .",
+        "refused: error: '--format paths' prints paths of one kind: '--files' or '--left-out'\n",
+    ),
+    (
+        "count --format md .",
+        "refused: error: invalid value 'md' for '--format <FORMAT>'\n  [possible values: tsv, table, json, csv, markdown, \
+         html, paths]\n\n  tip: write '--format markdown'\n",
+    ),
+    (
+        "count --format jsno .",
+        "refused: error: invalid value 'jsno' for '--format <FORMAT>'\n  [possible values: tsv, table, json, csv, markdown, \
+         html, paths]\n\n  tip: write '--format json'\n",
+    ),
+    (
+        "count --by",
+        "refused: error: a value is required for '--by <COLUMNS>' but none was supplied\n\nUsage: lc count [OPTIONS] [DIR]...\n\n\
+         For more information, try '--help'.\n\nExample: lc count --by ext .\n",
     ),
     (
         "count --format xml .",
-        "refused: error: invalid value 'xml' for '--format <FORMAT>'\n  [possible values: tsv, table, json, csv, markdown, html]",
+        "refused: error: invalid value 'xml' for '--format <FORMAT>'\n  [possible values: tsv, table, json, csv, markdown, html, paths]",
     ),
     (
         "count --format html --by ext .",
@@ -344,6 +383,28 @@ fn sorted_by(alloc: Global, line: &str, format: Format) -> Result<Option<Number>
 }
 
 #[test]
+fn files_of_formats(rt: HostRuntime) -> Result<(), Fail> {
+    for (line, wanted) in [
+        ("count", false),
+        ("count --files", true),
+        ("count --format paths", true),
+        ("count --format paths --left-out", true),
+        ("count --format csv", false),
+    ] {
+        let words = words_of(rt.alloc(), line)?;
+        let Ok(Request::Count(request)) = Request::read(rt.alloc(), words.as_slice()) else {
+            return Err(Fail::from(AllocError));
+        };
+        let options = request.table.options(Format::Tsv, Columns::ALL);
+        assert!(rt;
+            options.files == wanted && request.table.lists_files() == wanted,
+            "{line}"
+        );
+    }
+    Ok(())
+}
+
+#[test]
 fn orders_of_formats(rt: HostRuntime) -> Result<(), Fail> {
     let lines = Some(Number::Lines);
     for (line, format, wanted) in [
@@ -354,6 +415,8 @@ fn orders_of_formats(rt: HostRuntime) -> Result<(), Fail> {
         ("count --format json", Format::Table, None),
         ("count --share", Format::Tsv, lines),
         ("count --sort name", Format::Table, None),
+        ("count --format paths", Format::Table, None),
+        ("count --format paths --top 3", Format::Tsv, lines),
         ("count --sort name --top 3", Format::Csv, None),
         ("count --sort bytes", Format::Table, Some(Number::Bytes)),
     ] {

@@ -26,6 +26,10 @@ const SUMS: &[Case] = &[
         "sum --where lines>10 --no-binary --share --fail-if-any a",
         "sum a: no format by no columns, shares, 2 conditions, any file fails",
     ),
+    (
+        "sum --format paths --null a",
+        "sum a: Paths by no columns, ended by NUL",
+    ),
     ("sum -- -a", "sum -a: no format by no columns"),
 ];
 
@@ -77,6 +81,18 @@ const REFUSED: &[Case] = &[
     (
         "sum --files --left-out --format csv a",
         "refused: error: '--format csv' prints records of one kind",
+    ),
+    (
+        "sum -0 a",
+        "refused: error: '--null' needs '--format paths'\n",
+    ),
+    (
+        "sum --format paths --by dir a",
+        "refused: error: '--format paths' prints no rows",
+    ),
+    (
+        "sum --where change=added a",
+        "refused: error: invalid value 'change=added' for '--where <CONDITION>': change compares two sides",
     ),
     (
         "sum --format html --by dir a",

@@ -4,7 +4,7 @@ use lc_arguments::{
     CheckRequest, CountRequest, DiffRequest, ExplainRequest, FilterRequest, ParseExit, Request,
     SumRequest, TableRequest, WalkRequest,
 };
-use lc_sheet::{Columns, REPORT_KEYS};
+use lc_sheet::{ChangeKinds, Columns, REPORT_KEYS};
 use std::alloc::{AllocError, Global};
 use std::process::Abort;
 
@@ -112,6 +112,24 @@ fn count_text(alloc: Global, request: &CountRequest) -> Result<String, AllocErro
     Ok(text)
 }
 
+fn push_changes(text: &mut String, changes: ChangeKinds) -> Result<(), AllocError> {
+    if changes.are_all() {
+        return Ok(());
+    }
+    text.push_str(", keeps")?;
+    for (kept, word) in [
+        (changes.added, " added"),
+        (changes.changed, " changed"),
+        (changes.removed, " removed"),
+        (changes.same, " same"),
+    ] {
+        if kept {
+            text.push_str(word)?;
+        }
+    }
+    Ok(())
+}
+
 fn diff_text(alloc: Global, request: &DiffRequest) -> Result<String, AllocError> {
     let (old, new) = (request.old, request.new);
     let mut text = format!(in alloc; "diff {old} {new}")?;
@@ -123,6 +141,7 @@ fn diff_text(alloc: Global, request: &DiffRequest) -> Result<String, AllocError>
     if conditions > 0 {
         write!(text, ", {conditions} conditions")?;
     }
+    push_changes(&mut text, request.changes)?;
     if request.all {
         text.push_str(", all rows")?;
     }
@@ -170,6 +189,9 @@ fn sum_text(alloc: Global, request: &SumRequest) -> Result<String, AllocError> {
     push_table(&mut text, request.table)?;
     if request.left_out {
         text.push_str(", left out")?;
+    }
+    if request.null {
+        text.push_str(", ended by NUL")?;
     }
     let conditions = request.conditions.len();
     if conditions > 0 {

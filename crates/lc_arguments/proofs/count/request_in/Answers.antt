@@ -1,6 +1,6 @@
 use Rattle.std.proofs.Common.{codes, inl, inr, refl}
 use Rattle.clap.specs.{Matches.found_of, Walk.rows_of}
-use Rattle.lc_arguments.specs.{ReadNumbers.AreCutsIn, Words.{AsksNoTable, AsksNoWalk, Misvalue, NamesOneTwice}}
+use Rattle.lc_arguments.specs.{ReadNumbers.AreCutsIn, Words.{AsksNoTable, AsksNoWalk, ComparesSides, Misvalue, NamesOneTwice}}
 use Rattle.lc_arguments.proofs.{WordFaults.flag_of, Misnaming.passed_on}
 use Rattle.lc_arguments.specs.{CommandLine.rules_in, Options.options, declared.option_row.Subcommand.TheVariants.Count}
 use Rattle.lc_arguments.proofs.CommandRules.{numbers_within}
@@ -27,6 +27,12 @@ returns-in_err-table c =
     (numbers_within (rules_in Count options) (found_of c.args.matches.now) are refl refl refl refl)).cuts))))
     c.from_residual-in_err-table.ensures.1 c.in_err-table.ensures
 
+pub returns-in_err-one_sided : goal.returns-in_err-one_sided
+returns-in_err-one_sided c =
+    let rows = rows_of (found_of c.args.matches.now) in
+    passed_on _ (ComparesSides rows) _ c.from_residual-in_err-one_sided.result c.in_err-one_sided.field-0.0
+    (λ two are. inr (inr (inr (inl two)))) c.from_residual-in_err-one_sided.ensures.1 c.in_err-one_sided.ensures
+
 pub returns-in_err-attributes : goal.returns-in_err-attributes
 returns-in_err-attributes c =
     let rows = rows_of (found_of c.args.matches.now) in
@@ -49,6 +55,7 @@ returns c = λ are.
       left_out = flag_of rows f (codes "left-out") c.get_flag.result refl c.get_flag.ensures.value c.get_flag.ensures.other;
       table = c.in_ok-table.ensures numbers.cuts;
       attributes = c.in_ok-attributes.ensures;
+      one_sided = c.in_ok-one_sided.ensures;
       conditions = rw c.deref.ensures.value at c.in_ok-conditions.ensures;
       fail_if_any = flag_of rows f (codes "fail-if-any") c.get_flag-2.result refl c.get_flag-2.ensures.value c.get_flag-2.ensures.other;
       directories = c.in_ok-directories.ensures;

@@ -50,6 +50,7 @@ returns c = λ are.
       no_share = refl;
       attributes = c.in_ok-attributes.ensures;
       conditions = rw c.deref.ensures.value at c.in_ok-conditions.ensures;
+      changes = c.changes_in.ensures;
       fail_if_any = flag_of rows f (codes "fail-if-any") c.get_flag.result refl c.get_flag.ensures.value c.get_flag.ensures.other;
       all = flag_of rows f (codes "all") c.get_flag-2.result refl c.get_flag-2.ensures.value c.get_flag-2.ensures.other;
       old = text_or rows f (codes "OLD") c.get_str.result _ c.unwrap_or.result refl c.get_str.ensures refl c.unwrap_or.ensures;

@@ -1,6 +1,6 @@
 use Rattle.std.proofs.Common.{codes, inl, inr, refl}
 use Rattle.clap.specs.{Matches.found_of, Walk.rows_of}
-use Rattle.lc_arguments.specs.{Words.{AsksNoTable, MisnamesReports, Misvalue}, ReadNumbers.AreCutsIn}
+use Rattle.lc_arguments.specs.{Words.{AsksNoTable, ComparesSides, MisnamesReports, Misvalue}, ReadNumbers.AreCutsIn}
 use Rattle.lc_arguments.proofs.{WordFaults.flag_of, Misnaming.passed_on}
 use Rattle.lc_arguments.specs.{CommandLine.rules_in, Options.options, declared.option_row.Subcommand.TheVariants.Sum}
 use Rattle.lc_arguments.proofs.CommandRules.{cuts_within}
@@ -13,6 +13,12 @@ returns-in_err-table c =
     (λ bad are. inr (inr (inl (bad (c.read-cuts.ensures
     (cuts_within (rules_in Sum options) (found_of c.args.matches.now) are refl refl))))))
     c.from_residual.ensures.1 c.in_err-table.ensures
+
+pub returns-in_err-one_sided : goal.returns-in_err-one_sided
+returns-in_err-one_sided c =
+    let rows = rows_of (found_of c.args.matches.now) in
+    passed_on _ (ComparesSides rows) _ c.from_residual-in_err-one_sided.result c.in_err-one_sided.field-0.0
+    (λ two are. inr (inr (inr (inl two)))) c.from_residual-in_err-one_sided.ensures.1 c.in_err-one_sided.ensures
 
 pub returns-in_err-attributes : goal.returns-in_err-attributes
 returns-in_err-attributes c =
@@ -38,9 +44,11 @@ returns c = λ are.
     let rows = rows_of f in
     record {
       left_out = flag_of rows f (codes "left-out") c.get_flag.result refl c.get_flag.ensures.value c.get_flag.ensures.other;
+      null = flag_of rows f (codes "null") c.get_flag-2.result refl c.get_flag-2.ensures.value c.get_flag-2.ensures.other;
       table = c.in_ok-table.ensures (c.read-cuts.ensures (cuts_within (rules_in Sum options) (found_of c.args.matches.now) are refl refl));
       attributes = c.in_ok-attributes.ensures;
+      one_sided = c.in_ok-one_sided.ensures;
       conditions = rw c.deref.ensures.value at c.in_ok-conditions.ensures;
-      fail_if_any = flag_of rows f (codes "fail-if-any") c.get_flag-2.result refl c.get_flag-2.ensures.value c.get_flag-2.ensures.other;
+      fail_if_any = flag_of rows f (codes "fail-if-any") c.get_flag-3.result refl c.get_flag-3.ensures.value c.get_flag-3.ensures.other;
       reports = c.in_ok-reports.ensures;
     }

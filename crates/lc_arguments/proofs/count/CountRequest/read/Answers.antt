@@ -22,4 +22,4 @@ pub returns : goal.returns
 returns g c =
     unfit_in Count (map g.W.AsStr.text c.args.words.now) (found_of c.in-Ok.matches) c.in-Ok.ensures IsCountOf fit_together
     c.in-Ok-request_in.request c.in-Ok-request_in.ensures AsksNoCount c.unfit.result c.unfit.ensures (rw c.in-Some.is at c.misfit.ensures)
-    (λ misfit. inr (inr (inr misfit)))
+    (λ misfit. inr (inr (inr (inr misfit))))
