@@ -1,26 +1,28 @@
 -- What a comparison needs of its sides.
-use Rattle.std.proofs.Common.{◌≡◌, ◌||◌, ℕ, Bool, true, false, List, Result, refl, subst₂, ap, ◌∙◌}
+use Rattle.std.proofs.Common.{◌≡◌, ◌||◌, ℕ, Bool, true, false, not, List, Result, refl, subst₂, ap, ◌∙◌}
 use Rattle.lc_arguments.specs.declared.{diff.DiffRequest.DiffRequest, walk_request.WalkRequest.WalkRequest}
 use Rattle.lc_changes.specs.ChangeSheets.{needs_files}
 use Rattle.lc_io.specs.Reads.{Answer}
 use Rattle.lc_program.specs.{Differences.{change_options, compared_columns, compared_needs}, Sides.GivesSides, Systems.SystemMay}
 use Rattle.lc_program.specs.declared.cause.Cause.{Cause}
-use Rattle.lc_sheet.specs.{Keys.are_of_files, declared.table_options.Format.Format}
+use Rattle.lc_sheet.specs.{ChangeKinds.are_all_changes, Keys.are_of_files, declared.table_options.Format.Format}
 use Rattle.lc_reports.specs.declared.needs.Needs.{Needs}
 use Rattle.lc_walk.specs.declared.{options.Options.Options, report.Report.Report}
 use Rattle.lc_sheet.specs.Conditions as condition
 
-either : (a b c : Bool) → (a || b) ≡ true → (a || b || c) ≡ true
-either true b c is = refl
-either false true c is = refl
-either false false c is = absurd (cc)
+either : (a b c d : Bool) → (a || b) ≡ true → ((a || d) || b || c) ≡ true
+either true b c d is = refl
+either false true c true is = refl
+either false true c false is = refl
+either false false c d is = absurd (cc)
 
 -- where a comparison shows files, each side must list them
 pub files_needed : (other : Format) (d : DiffRequest) (needs : Needs) → needs ≡ compared_needs d
     → needs_files (change_options other d) ≡ true → needs.files ≡ true
 files_needed other d needs is asked =
     ap (λ (n : Needs). n.files) is
-    ∙ either d.table.files (are_of_files (compared_columns d.table)) (condition.needs_files d.conditions.items) asked
+    ∙ either d.table.files (are_of_files (compared_columns d.table)) (condition.needs_files d.conditions.items)
+    (not (are_all_changes d.changes)) asked
 
 -- sides that were given by what a comparison needs
 pub sides_given : (may : SystemMay) {I : Type 0} (may_give : I → ℕ → Answer → I → Type 0) (w : WalkRequest) (o : Options)

@@ -9,7 +9,6 @@ mod Loading
 mod NamesTaken
 mod NestedPlaces
 mod PathsListed
-mod PathsWanted
 mod Printing
 mod Reordered
 mod ReportsRead

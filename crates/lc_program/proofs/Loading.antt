@@ -2,8 +2,8 @@
 use Rattle.std.proofs.Common.{◌≡◌, ◌∙◌, Result, Ok, Err, ap, sym}
 use Rattle.std.specs.Result.{IsErrAnd}
 use Rattle.lc_paths.specs.declared.check_fault.CheckFault.{CheckFault}
-use Rattle.lc_walk.specs.declared.report.Report.{Report}
-use Rattle.lc_program.specs.{Causes.check_cause, Replies.{Reply, checked}, Sums.sum_reply, declared.cause.Cause.Cause}
+use Rattle.lc_program.specs.{Causes.check_cause, Replies.{Reply, checked}, Sums.sum_reply}
+use Rattle.lc_program.specs.declared.{cause.Cause.Cause, runs.Printed.Printed}
 
 -- the fault of a check that was passed on is the reply
 pub fault_replied : (reply : Reply) (answer : Result (Unit {0}) CheckFault) (fault : CheckFault)
@@ -12,7 +12,7 @@ fault_replied (Ok outcome) answer fault is was = absurd is
 fault_replied (Err cause) answer fault is was = ap Err is ∙ sym (ap checked was)
 
 -- and so is that of a sum
-pub sum_replied : (reply : Reply) (answer : Result Report Cause) (cause : Cause) → IsErrAnd reply (λ given. given ≡ cause)
+pub sum_replied : (reply : Reply) (answer : Result Printed Cause) (cause : Cause) → IsErrAnd reply (λ given. given ≡ cause)
     → answer ≡ Err cause → reply ≡ sum_reply answer
 sum_replied (Ok answered) answer cause is was = absurd is
 sum_replied (Err given) answer cause is was = ap Err is ∙ sym (ap sum_reply was)

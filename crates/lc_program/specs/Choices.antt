@@ -1,10 +1,12 @@
 -- Options that choose files of a directory, which a comparison of reports refuses.
-use Rattle.std.specs.Prelude.{◌≡◌, ◌⊎◌, ℕ, true, false, not, if◌then◌else◌, List, ◌++◌, Option, Some, None, is_some, Result, Ok, Err}
+use Rattle.std.specs.Prelude.{◌≡◌, ◌≢◌, ◌⊎◌, ℕ, Bool, true, false, not, if◌then◌else◌, List, ◌++◌, Option, Some, None, is_some, Result, Ok}
+use Rattle.std.specs.Prelude.{Err}
 use Rattle.std.specs.Prelude.{codes}
 use Rattle.lc_glob.specs.Lists.{is_empty}
 use Rattle.lc_arguments.specs.declared.walk_request.WalkRequest.{WalkRequest}
-use Rattle.lc_program.specs.{ReportLines.{IsTold, origin_of}, Sides.IsSide, declared.cause.Cause.{Cause, TheVariants.Memory}}
-use Rattle.lc_program.specs.declared.unread_reason.UnreadReason.{UnreadReason}
+use Rattle.lc_program.specs.{Reasons.unexplained_line, ReportLines.{IsTold, origin_of}, Sides.IsSide}
+use Rattle.lc_program.specs.declared.cause.Cause.{Cause, TheVariants.Memory}
+use Rattle.lc_program.specs.declared.unread_reason.UnreadReason.{UnreadReason, TheVariants.Missing}
 use Rattle.lc_text.specs.Visible.{visible_bytes}
 
 -- the words that say that both sides are reports
@@ -38,3 +40,22 @@ AnswersChoices may_unlist w old new (Err cause) =
     ((option : List ℕ) × (first_choice w ≡ Some option) × IsSide may_unlist old false × IsSide may_unlist new false
     × IsTold (choice_line option old new) cause)
     ⊎ (cause ≡ Memory)
+
+-- whether nothing has the name of a side, by the reason that the system may give why no directory of this name can be listed
+abbrev pub IsMissing : (List ℕ → Option UnreadReason → Type 0) → List ℕ → Bool → Type 0
+IsMissing may_unlist name true = (name ≢ codes "-") × may_unlist name (Some Missing)
+IsMissing may_unlist name false =
+    (name ≡ codes "-") ⊎ ((why : Option UnreadReason) × may_unlist name why × (why ≢ Some Missing))
+
+-- the lines that say that a side is missing, and how commits are compared
+abbrev pub missing_lines : List ℕ → List ℕ
+missing_lines old =
+    unexplained_line old (Some Missing)
+    ++ codes "lc: to compare a commit: git worktree add --detach ../old COMMIT && lc diff ../old .\n"
+
+-- how sides are accepted or refused by their names. Accepted: something has the name of one. Refused: nothing has the name of either; or an
+-- allocation fails
+abbrev pub AnswersMissing : (List ℕ → Option UnreadReason → Type 0) → List ℕ → List ℕ → Result (Unit {0}) Cause → Type 0
+AnswersMissing may_unlist old new (Ok _) = IsMissing may_unlist old false ⊎ IsMissing may_unlist new false
+AnswersMissing may_unlist old new (Err cause) =
+    (IsMissing may_unlist old true × IsMissing may_unlist new true × IsTold (missing_lines old) cause) ⊎ (cause ≡ Memory)

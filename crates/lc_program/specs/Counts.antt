@@ -1,11 +1,12 @@
 -- How a count is answered, by what was read and written.
 use Rattle.std.specs.Prelude.{◌≡◌, ◌⊎◌, ◌||◌, ℕ, List, [], ◌∷◌, ◌++◌, flat_map, map, Result, Ok, Err, unwrap_or}
-use Rattle.lc_arguments.specs.{Combinations.is_picture, TableWords.options_in, declared.count.CountRequest.CountRequest}
+use Rattle.lc_arguments.specs.{Combinations.is_picture, TableWords.{lists_files, options_in}, declared.count.CountRequest.CountRequest}
 use Rattle.lc_io.specs.{Reads.Answer, declared.{source.Failed.Failed, printing.PrintFault.PrintFault}}
 use Rattle.lc_program.specs.{Finds.{FindsFor, FindsNoneFor}, Nested.{AreApart, AreNested}, Runs.AnswersTable, Causes.print_cause}
-use Rattle.lc_program.specs.{Replies.{IsReplyWith, Reply}, Systems.SystemMay}
+use Rattle.lc_program.specs.{PathLists.emptied_line, Replies.{IsReplyWith, Reply}, ReportTexts.{Showing, showing}, Styles.end_for}
+use Rattle.lc_program.specs.Systems.{SystemMay}
 use Rattle.lc_program.specs.WalkRequests.{IsPrepared, IsUnprepared, columns_of, entered_by, named_in}
-use Rattle.lc_program.specs.declared.{answered.Answered.TheVariants.Counted, cause.Cause.{Cause, TheVariants.Memory}}
+use Rattle.lc_program.specs.declared.{answered.Answered.TheVariants.Counted, cause.Cause.{Cause, TheVariants.Memory}, runs.Printed.Printed}
 use Rattle.lc_sheet.specs.{Conditions.needs_files, Keys.are_of_files, declared.table_options.Format.Format}
 use Rattle.lc_walk.specs.{Walks.Walks, declared.{options.{Options.Options, ReportLists.ReportLists}, report.Report.Report}}
 use Rattle.lc_walk.specs.declared.walk_fault.WalkFault.{WalkFault}
@@ -31,7 +32,8 @@ counted_in c = one_text (names_of c)
 -- need it
 abbrev pub lists_of : CountRequest → ReportLists
 lists_of c = record {
-  files = c.table.files || are_of_files (unwrap_or c.table.by all_columns) || is_picture c.table.format || needs_files c.conditions.items;
+  files = lists_files c.table || are_of_files (unwrap_or c.table.by all_columns) || is_picture c.table.format
+      || needs_files c.conditions.items;
   left_out = c.left_out;
 }
 
@@ -40,11 +42,11 @@ module _ (may : SystemMay) {O : Type 0} (may_take : O → List ℕ → Result �
   abbrev pub MayWalk : Options → List ℕ → Result Report WalkFault → Type 0
   MayWalk o directory = Walks (may.list directory (entered_by c.walk)) (may.give directory (entered_by c.walk)) o
 
-  -- what a call answers that writes the table of what meets the conditions, in this format if the command line names none
-  abbrev pub AnswersTableOf : Report → Report → O → Result (Unit {0}) PrintFault → O → Type 0
-  AnswersTableOf r left out answer wrote =
-      AnswersTable may_take (counted_in c) c.conditions.items (options_in other all_columns c.table) (columns_of c.attributes.items) r
-      left out answer wrote
+  -- how the report is shown, in this format if the command line names none
+  abbrev pub counts_shown : Showing
+  counts_shown =
+      showing (counted_in c) c.conditions.items (options_in other all_columns c.table) (columns_of c.attributes.items)
+      (end_for c.walk.null)
 
   -- what is found in the directories that the command line names, or why nothing is
   abbrev pub FindsAsked : Options → Report → Type 0
@@ -53,14 +55,15 @@ module _ (may : SystemMay) {O : Type 0} (may_take : O → List ℕ → Result �
   abbrev pub FindsNoneAsked : Options → Cause → Type 0
   FindsNoneAsked o cause = FindsNoneFor (MayWalk o) (names_of c) cause
 
-  -- how the table of a count is printed. Either the table of the report of the directories was written whole, and `left` is what remains of
-  -- the report; or there is no report, and nothing was written; or the table was not written, or not whole
-  abbrev pub Prints : Options → O → Result Report Cause → O → Type 0
-  Prints o out (Ok left) wrote = (r : Report) × FindsAsked o r × AnswersTableOf r left out (Ok tt) wrote
+  -- how the table of a count is printed. Either the table of the report of the directories was written whole, and what remains of the
+  -- report was printed; or there is no report, and nothing was written; or the table was not written, or not whole
+  abbrev pub Prints : Options → O → Result Printed Cause → O → Type 0
+  Prints o out (Ok printed) wrote =
+      (r : Report) × FindsAsked o r × AnswersTable may_take counts_shown r printed.report out (Ok printed.refused) wrote
   Prints o out (Err cause) wrote =
       (FindsNoneAsked o cause × (wrote ≡ out))
       ⊎ ((r left : Report) × (fault : PrintFault) × FindsAsked o r × (cause ≡ print_cause fault)
-      × AnswersTableOf r left out (Err fault) wrote)
+      × AnswersTable may_take counts_shown r left out (Err fault) wrote)
 
 module _ (may : SystemMay) {I O : Type 0} (may_give : I → ℕ → Answer → I → Type 0)
     (may_take : O → List ℕ → Result ℕ Failed → O → Type 0) (other : Format) (c : CountRequest) where
@@ -69,7 +72,8 @@ module _ (may : SystemMay) {I O : Type 0} (may_give : I → ℕ → Answer → I
   abbrev pub AnswersApart : I → O → Reply → I → O → Type 0
   AnswersApart input out reply read wrote =
       ((o : Options) × IsPrepared may may_give c.walk c.attributes.items (lists_of c) input o read
-      × ((answer : Result Report Cause) × IsReplyWith Counted (named_in c.walk c.attributes.items) answer reply
+      × ((answer : Result Printed Cause)
+      × IsReplyWith Counted (emptied_line c.walk.only_from o.filters.now.only) (named_in c.walk c.attributes.items) answer reply
       × Prints may may_take other c o out answer wrote))
       ⊎ ((cause : Cause) × IsUnprepared may may_give c.walk input cause read × (reply ≡ Err cause) × (wrote ≡ out))
 

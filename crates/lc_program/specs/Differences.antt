@@ -1,16 +1,18 @@
 -- How a comparison is answered, by what was read and written.
-use Rattle.std.specs.Prelude.{◌≡◌, ◌⊎◌, ℕ, Bool, true, false, cond, List, Some, None, Result, Ok, Err, unwrap_or}
+use Rattle.std.specs.Prelude.{◌≡◌, ◌⊎◌, ◌||◌, ℕ, Bool, true, false, cond, not, List, Some, None, Result, Ok, Err, unwrap_or}
 use Rattle.lc_arguments.specs.{TableWords.{is_for_reading, number_of, output_in}, declared.diff.DiffRequest.DiffRequest}
 use Rattle.lc_arguments.specs.declared.table.TableRequest.{TableRequest}
-use Rattle.lc_changes.specs.{ChangeSheets.{AreChangesOf, ChangesModel}, declared.options.ChangeOptions.ChangeOptions}
+use Rattle.lc_changes.specs.{ChangeSheets.{AreChangesOf, ChangesModel}, KeptChanges.AreKeptParts}
+use Rattle.lc_changes.specs.declared.options.ChangeOptions.{ChangeOptions}
 use Rattle.lc_formats.specs.Texts.{IsTextIn}
 use Rattle.lc_io.specs.{Reads.Answer, Writes.{StopsWriting, Writes}, declared.{printing.PrintFault.PrintFault, source.Failed.Failed}}
-use Rattle.lc_program.specs.{Causes.print_cause, Choices.AnswersChoices, Replies.{IsReplyWith, Reply}, Sides.GivesSides, Systems.SystemMay}
+use Rattle.lc_program.specs.{Causes.print_cause, Choices.{AnswersChoices, AnswersMissing}, PathLists.emptied_line}
+use Rattle.lc_program.specs.{Replies.{IsReplyWith, Reply}, Sides.GivesSides, Systems.SystemMay}
 use Rattle.lc_program.specs.WalkRequests.{IsPrepared, IsUnprepared, columns_of, named_in}
 use Rattle.lc_program.specs.declared.{answered.Answered.TheVariants.Compared, cause.Cause.{Cause, TheVariants.Memory}}
 use Rattle.lc_program.specs.declared.comparison.Comparison.{Comparison}
 use Rattle.lc_rows.specs.Kept.{IsKept}
-use Rattle.lc_sheet.specs.{Sheets.sheet_format, declared.column.Number.TheVariants.Lines}
+use Rattle.lc_sheet.specs.{ChangeKinds.are_all_changes, Sheets.sheet_format, declared.column.Number.TheVariants.Lines}
 use Rattle.lc_sheet.specs.declared.table_options.{Columns.Columns, Format.Format, Order.{Order, TheVariants.{Name, Largest}}, Output.Output}
 use Rattle.lc_reports.specs.{Needs.needs_of, declared.needs.Needs.Needs}
 use Rattle.lc_walk.specs.declared.{options.{Options.Options, ReportLists.ReportLists}, report.Report.Report}
@@ -40,13 +42,20 @@ change_options other d = record {
 
 -- the columns and lists that the report of each side must have
 abbrev pub compared_needs : DiffRequest → Needs
-compared_needs d = needs_of (Some (compared_columns d.table)) d.conditions.items d.table.files false
+compared_needs d =
+    needs_of (Some (compared_columns d.table)) d.conditions.items (d.table.files || not (are_all_changes d.changes)) false
 
 -- the lists that the report of a side must have that is counted
 abbrev pub compared_lists : DiffRequest → ReportLists
 compared_lists d = record { files = (compared_needs d).files; left_out = false }
 
 -- ---- what is printed
+
+-- what is left of two reports: of each, the files that meet the conditions, and of these the files whose change is asked for
+abbrev pub KeepsAsked : DiffRequest → Report → Report → Report → Report → Type 0
+KeepsAsked d old new kept_old kept_new =
+    (a b : Report) × IsKept d.conditions.items old a × IsKept d.conditions.items new b
+    × AreKeptParts d.changes (compared_columns d.table).attributes a b kept_old kept_new
 
 -- a text is that of the changes from one report to another, and `differ` is whether there are changes
 pub record IsChangesText (options : ChangeOptions) (attributes : List (List ℕ)) (old new : Report) (text : List ℕ)
@@ -70,12 +79,12 @@ module _ {O : Type 0} (may_take : O → List ℕ → Result ℕ Failed → O →
   -- an allocation failed
   abbrev pub PrintsChanges : Format → DiffRequest → Report → Report → O → Result Comparison Cause → O → Type 0
   PrintsChanges other d old new out (Ok c) wrote =
-      IsKept d.conditions.items old c.old × IsKept d.conditions.items new c.new
+      KeepsAsked d old new c.old c.new
       × AnswersChanges (change_options other d) (columns_of d.attributes.items) c.old c.new out (Ok c.differ) wrote
   PrintsChanges other d old new out (Err cause) wrote =
       ((cause ≡ Memory) × (wrote ≡ out))
-      ⊎ ((a b : Report) × (fault : PrintFault) × IsKept d.conditions.items old a × IsKept d.conditions.items new b
-      × (cause ≡ print_cause fault) × AnswersChanges (change_options other d) (columns_of d.attributes.items) a b out (Err fault) wrote)
+      ⊎ ((a b : Report) × (fault : PrintFault) × KeepsAsked d old new a b × (cause ≡ print_cause fault)
+      × AnswersChanges (change_options other d) (columns_of d.attributes.items) a b out (Err fault) wrote)
 
   -- the changes between both sides are printed; or a side has no report, and nothing was written
   abbrev pub PrintsSides : Format → DiffRequest → Result (Report × Report) Cause → O → Result Comparison Cause → O → Type 0
@@ -89,7 +98,8 @@ module _ (may : SystemMay) {I O : Type 0} (may_give : I → ℕ → Answer → I
   ComparesSides o input out reply read wrote =
       (sides : Result (Report × Report) Cause) × GivesSides may may_give d.walk o (columns_of d.attributes.items) (compared_needs d)
       d.old.now d.new.now input sides read
-      × ((answer : Result Comparison Cause) × IsReplyWith Compared (named_in d.walk d.attributes.items) answer reply
+      × ((answer : Result Comparison Cause)
+      × IsReplyWith Compared (emptied_line d.walk.only_from o.filters.now.only) (named_in d.walk d.attributes.items) answer reply
       × PrintsSides may_take other d sides out answer wrote)
 
   -- how a comparison with fitting options is answered: the sides were compared as the command line requests; or the walks could not be
@@ -100,10 +110,12 @@ module _ (may : SystemMay) {I O : Type 0} (may_give : I → ℕ → Answer → I
       × ComparesSides o between out reply read wrote)
       ⊎ ((cause : Cause) × IsUnprepared may may_give d.walk input cause read × (reply ≡ Err cause) × (wrote ≡ out))
 
-  -- how a comparison is answered: both sides are compared; or an option chooses files but both sides are reports, or an allocation
-  -- fails, and nothing was read or written
+  -- how a comparison is answered: both sides are compared; or nothing has the name of either, or an option chooses files but both sides are
+  -- reports, or an allocation fails, and nothing was read or written
   abbrev pub AnswersDiff : I → O → Reply → I → O → Type 0
   AnswersDiff input out reply read wrote =
-      (AnswersChoices may.unlist d.walk d.old.now d.new.now (Ok tt) × AnswersSides input out reply read wrote)
-      ⊎ ((cause : Cause) × AnswersChoices may.unlist d.walk d.old.now d.new.now (Err cause) × (reply ≡ Err cause) × (read ≡ input)
-      × (wrote ≡ out))
+      (AnswersMissing may.unlist d.old.now d.new.now (Ok tt) × AnswersChoices may.unlist d.walk d.old.now d.new.now (Ok tt)
+      × AnswersSides input out reply read wrote)
+      ⊎ ((cause : Cause)
+      × (AnswersMissing may.unlist d.old.now d.new.now (Err cause) ⊎ AnswersChoices may.unlist d.walk d.old.now d.new.now (Err cause))
+      × (reply ≡ Err cause) × (read ≡ input) × (wrote ≡ out))

@@ -56,7 +56,7 @@ filters_of asked names text attributes = record {
   include = patterns_text (map (λ pattern. pattern.now) asked.include.items);
   no_ignore = asked.no_ignore;
   without = words_of asked.archive (map (λ word. word.now) asked.without.items);
-  only = [];
+  only = None;
   asked = names;
 }
 

@@ -23,6 +23,7 @@ pub mod Tellings
 pub mod Typed
 pub mod Unlisted
 pub mod Unmatched
+pub mod Meant
 pub mod Unnamed
 pub mod ReportTexts
 pub mod Runs

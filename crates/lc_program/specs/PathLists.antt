@@ -1,6 +1,7 @@
 -- The list of paths that the command line names, in a file or on the input.
-use Rattle.std.specs.Prelude.{◌≡◌, ◌≢◌, ◌⊎◌, ◌&&◌, ℕ, Bool, true, false, not, cond, List, [], ◌∷◌, ◌++◌, map, Option, Some, None, Result}
-use Rattle.std.specs.{Prelude.{Ok, Err, Vec, codes, string_bytes}, Borrow.Bor, Global.Global, List.list_any}
+use Rattle.std.specs.Prelude.{◌≡◌, ◌≢◌, ◌⊎◌, ◌&&◌, ◌||◌, ℕ, Bool, true, false, not, List, [], ◌∷◌, ◌++◌, map, Option, Some, None, Result}
+use Rattle.std.specs.{Prelude.{Ok, Err, Vec, codes, is_some, option_map, string_bytes}, Borrow.Bor, Global.Global, List.list_any}
+use Rattle.lc_glob.specs.Lists.{is_empty}
 use Rattle.lc_io.specs.{Reads.Answer, declared.whole.WholeFault.{WholeFault, TheVariants.{Read, TooLong, Memory}}}
 use Rattle.lc_text.specs.{Lines.input_paths_of, PathLines.{is_bad_path, is_top, path_of, undotted}, declared.lines.PathEnd.PathEnd}
 use Rattle.lc_tree.specs.Trees.{Contents}
@@ -57,14 +58,12 @@ pub record IsFirstBad (end : PathEnd) (list path : List ℕ) : Type 0 where
   pub fine : list_any is_bad_listed (map listed_path before) ≡ false
   pub bad : is_bad_listed (listed_path path) ≡ true
 
--- the paths of the list with this name, or why they are refused: there are none, or no entry can have one of them; or an allocation fails
+-- the paths of the list with this name, or why they are refused: no entry can have one of them, or an allocation fails
 abbrev pub AnswersListed : List ℕ → PathEnd → List ℕ → Result (Vec (Bor (List ℕ)) Global) Cause → Type 0
 AnswersListed name end list (Ok paths) =
     (map (λ path. path.now) paths.items ≡ paths_listed end list) × (list_any is_bad_listed (paths_listed end list) ≡ false)
-    × (paths_listed end list ≢ [])
 AnswersListed name end list (Err (cause.BadPaths line)) =
-    ((path : List ℕ) × IsFirstBad end list path × (string_bytes line ≡ bad_path_line name path))
-    ⊎ ((paths_listed end list ≡ []) × (string_bytes line ≡ no_path_line name))
+    (path : List ℕ) × IsFirstBad end list path × (string_bytes line ≡ bad_path_line name path)
 AnswersListed name end list (Err cause.Memory) = Unit {0}
 AnswersListed name end list (Err _) = ⊥
 
@@ -73,17 +72,31 @@ abbrev pub AnswersNamed : List (List ℕ) → Option (Bor (List ℕ)) → PathEn
 AnswersNamed only None end list (Ok paths) = map (λ path. path.now) paths.items ≡ only
 AnswersNamed only (Some name) end list (Ok paths) =
     (map (λ path. path.now) paths.items ≡ only ++ paths_listed end list) × (list_any is_bad_listed (paths_listed end list) ≡ false)
-    × (paths_listed end list ≢ [])
 AnswersNamed only None end list (Err why) = why ≡ cause.Memory
 AnswersNamed only (Some name) end list (Err why) = AnswersListed name.now end list (Err why)
 
--- the paths to count. If one of them is the counted directory itself, there are none, which means all of it
-abbrev pub asked_for : List (List ℕ) → List (List ℕ)
-asked_for paths = cond (list_any is_top paths) [] paths
+-- whether the command line names paths or a list
+abbrev pub names_paths : List (List ℕ) → Option (Bor (List ℕ)) → Bool
+names_paths only name = not (is_empty only) || is_some name
 
--- the paths to count, of the command line and of its list, or why they are refused
-abbrev pub AnswersWanted : List (List ℕ) → Option (Bor (List ℕ)) → PathEnd → List ℕ → Result (Vec (Bor (List ℕ)) Global) Cause → Type 0
-AnswersWanted only name end list (Ok paths) =
-    (named : Vec (Bor (List ℕ)) Global) × AnswersNamed only name end list (Ok named)
-    × (map (λ path. path.now) paths.items ≡ asked_for (map (λ path. path.now) named.items))
+-- the paths to count, if all of the directory is not
+abbrev pub paths_wanted : Option (Vec (Bor (List ℕ)) Global) → Option (List (List ℕ))
+paths_wanted wanted = option_map (λ paths. map (λ path. path.now) paths.items) wanted
+
+-- the paths to count, of the command line and of its list, or why they are refused. All of the directory is counted if neither is named, or
+-- if one of the paths is the directory itself
+abbrev pub AnswersWanted : List (List ℕ) → Option (Bor (List ℕ)) → PathEnd → List ℕ → Result (Option (Vec (Bor (List ℕ)) Global)) Cause
+    → Type 0
+AnswersWanted only name end list (Ok None) =
+    (names_paths only name ≡ false)
+    ⊎ ((named : Vec (Bor (List ℕ)) Global) × AnswersNamed only name end list (Ok named)
+    × (list_any (λ (path : Bor (List ℕ)). is_top path.now) named.items ≡ true))
+AnswersWanted only name end list (Ok (Some paths)) =
+    AnswersNamed only name end list (Ok paths) × (names_paths only name ≡ true)
+    × (list_any (λ (path : Bor (List ℕ)). is_top path.now) paths.items ≡ false)
 AnswersWanted only name end list (Err why) = AnswersNamed only name end list (Err why)
+
+-- the line that says that the list with this name has no path, if nothing is counted for this reason; else nothing
+abbrev pub emptied_line : Option (Bor (List ℕ)) → Option (List (List ℕ)) → List ℕ
+emptied_line (Some name) (Some []) = no_path_line name.now
+emptied_line name paths = []

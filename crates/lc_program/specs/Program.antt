@@ -2,9 +2,10 @@
 use Rattle.std.specs.Prelude.{◌≡◌, ◌⊎◌, ℕ, Bool, List, [], Option, Result, Ok, Err, string_bytes}
 use Rattle.lc_io.specs.{declared.source.Failed.Failed, Reads.Answer, Writes.{Writes, StopsWriting}}
 use Rattle.lc_program.specs.{Causes.{HasNumber, cause_line}, Counts.names_of, Faults.TellsFaults, Hints.Hints, Introductions.Introduces}
+use Rattle.lc_program.specs.Meant.{TellsMeant}
 use Rattle.lc_program.specs.{Replies.{Reply, ending_of}, Requests.AnswersRequest, SideFaults.TellsSideFaults, Styles.format_for}
 use Rattle.lc_program.specs.{Systems.SystemMay, Tellings.Tells, Typed.AreReadAs, Unlisted.TellsUnlisted, Unmatched.unmatched_in}
-use Rattle.lc_program.specs.declared.answered.Answered.{Answered, TheVariants.{Compared, Counted, Explained, Summed}}
+use Rattle.lc_program.specs.declared.answered.{Answered.{Answered, TheVariants.{Compared, Counted, Explained, Summed}}, Remarks.Remarks}
 use Rattle.lc_program.specs.declared.cause.Cause.{Cause, TheVariants.{Memory, Unwritten}}
 use Rattle.lc_program.specs.declared.ending.Ending.{Ending, TheVariants.{AnyFile, Done, SomeFaults, Misused, GaveUp}}
 use Rattle.lc_program.specs.declared.{repository.Repository.Repository, streams.{Streams.Streams, Terminals.Terminals}}
@@ -31,27 +32,38 @@ module _ {E : Type 0} (may_take : E → List ℕ → Result ℕ Failed → E →
   -- command line names none; a sum has no directories of its own. For an explanation with errors there may be a line about its directory,
   -- with the reason that the system gives. For a comparison there are the paths of each side
   abbrev pub TellsUnread : (List ℕ → Option UnreadReason → Type 0) → Format → Request → Answered → E → E → Type 0
-  TellsUnread may_unlist other (Count c) (Counted left unnamed) err told =
-      TellsFaults may_take may_unlist (names_of c) (output_in other c.table) left.faults.items err told
+  TellsUnread may_unlist other (Count c) (Counted p remarks) err told =
+      TellsFaults may_take may_unlist (names_of c) (output_in other c.table) p.report.faults.items err told
   TellsUnread may_unlist other (Explain c) (Explained outcome.SomeFaults) err told =
       TellsUnlisted may_take may_unlist c.directory.now err told
-  TellsUnread may_unlist other (Sum c) (Summed left) err told =
-      TellsFaults may_take may_unlist [] (output_in other c.table) left.faults.items err told
-  TellsUnread may_unlist other (Diff d) (Compared c unnamed) err told =
+  TellsUnread may_unlist other (Sum c) (Summed p) err told =
+      TellsFaults may_take may_unlist [] (output_in other c.table) p.report.faults.items err told
+  TellsUnread may_unlist other (Diff d) (Compared c remarks) err told =
       TellsSideFaults may_take d.old.now c.old.faults.items d.new.now c.new.faults.items err told
   TellsUnread may_unlist other request answered err told = told ≡ err
 
-  -- standard error gets the lines about attributes that no attribute file names
-  abbrev pub TellsUnnamed : Answered → E → E → Type 0
-  TellsUnnamed (Counted left unnamed) err told = Tells may_take err (string_bytes unnamed) told
-  TellsUnnamed (Compared c unnamed) err told = Tells may_take err (string_bytes unnamed) told
-  TellsUnnamed answered err told = told ≡ err
+  -- standard error gets the lines about paths that the text lacks
+  abbrev pub TellsRefused : Answered → E → E → Type 0
+  TellsRefused (Counted p remarks) err told = Tells may_take err (string_bytes p.refused) told
+  TellsRefused (Summed p) err told = Tells may_take err (string_bytes p.refused) told
+  TellsRefused answered err told = told ≡ err
 
-  -- standard error gets what could not be read, and then which attributes no attribute file names
+  -- standard error gets the line about a list without a path, and the lines about attributes that no attribute file names
+  abbrev pub TellsBoth : Remarks → E → E → Type 0
+  TellsBoth r err told =
+      (between : E) × Tells may_take err (string_bytes r.emptied) between × Tells may_take between (string_bytes r.unnamed) told
+
+  abbrev pub TellsRemarks : Answered → E → E → Type 0
+  TellsRemarks (Counted p remarks) err told = TellsBoth remarks err told
+  TellsRemarks (Compared c remarks) err told = TellsBoth remarks err told
+  TellsRemarks answered err told = told ≡ err
+
+  -- standard error gets what could not be read, then which paths the text lacks, and then what there is to say of the options
   abbrev pub Comments : (List ℕ → Option UnreadReason → Type 0) → Terminals → Request → Answered → E → E → Type 0
   Comments may_unlist terminals request answered err told =
       (unread : E) × TellsUnread may_unlist (format_for terminals.output) request answered err unread
-      × TellsUnnamed answered unread told
+      × ((refused remarked : E) × TellsRefused answered unread refused × TellsRemarks answered refused remarked
+      × TellsMeant may_take request answered remarked told)
 
   -- standard error gets these lines about patterns, and perhaps a hint
   abbrev pub Advises : (List ℕ → Option Repository → Type 0) → Bool → Request → List ℕ → E → E → Type 0

@@ -1,36 +1,68 @@
 -- The text of a report, by its options.
-use Rattle.std.specs.{Prelude.{◌≡◌, ℕ, List}, List.Sorted.IsPermutation}
-use Rattle.lc_formats.specs.Texts.{IsTextIn}
+use Rattle.std.specs.{Prelude.{◌≡◌, ℕ, List, []}, List.Sorted.IsPermutation}
+use Rattle.lc_formats.specs.{Paths.{paths_of, refused_lines}, Texts.IsTextIn}
 use Rattle.lc_picture.specs.Page.{IsPageOf, drawn_number}
 use Rattle.lc_rows.specs.{Kept.IsKept, Sheets.IsSheetOf}
 use Rattle.lc_sheet.specs.{Conditions.ConditionModel, Sheets.{SheetModel, sheet_format}}
-use Rattle.lc_sheet.specs.declared.table_options.{Output.{Output, TheVariants.{Text, Picture}}, TableOptions.TableOptions}
+use Rattle.lc_sheet.specs.declared.table_options.{Output.{Output, TheVariants.{Text, Picture, Paths}}, ReportOptions.ReportOptions}
+use Rattle.lc_sheet.specs.declared.table_options.TableOptions.{TableOptions}
+use Rattle.lc_text.specs.declared.lines.PathEnd.{PathEnd}
 use Rattle.lc_walk.specs.declared.report.Report.{Report}
 
--- a text is that of a report's sheet with these options and these columns of attributes
-pub record HasSheet (options : TableOptions) (attributes : List (List ℕ)) (r : Report) (text : List ℕ) : Type 0 where
+-- how a report is shown: what was counted, the conditions on its files, the options of the table, the columns of attributes, and what ends
+-- each path
+pub record Showing : Type 0 where
+  pub counted : List ℕ
+  pub conditions : List ConditionModel
+  pub table : TableOptions
+  pub attributes : List (List ℕ)
+  pub end : PathEnd
+
+abbrev pub showing : List ℕ → List ConditionModel → TableOptions → List (List ℕ) → PathEnd → Showing
+showing counted conditions table attributes end = record {
+  counted = counted;
+  conditions = conditions;
+  table = table;
+  attributes = attributes;
+  end = end;
+}
+
+abbrev pub showing_of : ReportOptions → Showing
+showing_of o = showing o.counted.now o.conditions.now o.table o.attributes.now o.end
+
+-- a text is that of a sheet as this output, without the paths that have these lines; only paths are refused
+abbrev pub IsWrittenAs : Output → PathEnd → SheetModel → List ℕ → List ℕ → Type 0
+IsWrittenAs Paths end sheet text refused = (text ≡ paths_of end sheet) × (refused ≡ refused_lines end sheet)
+IsWrittenAs output end sheet text refused = IsTextIn (sheet_format output) sheet text × (refused ≡ [])
+
+-- the same, of a report's sheet that is shown so
+pub record HasSheet (s : Showing) (r : Report) (text refused : List ℕ) : Type 0 where
   pub sheet : SheetModel
-  pub is_sheet : IsSheetOf options attributes r sheet
-  pub is : IsTextIn (sheet_format options.output) sheet text
+  pub is_sheet : IsSheetOf s.table s.attributes r sheet
+  pub is : IsWrittenAs s.table.output s.end sheet text refused
 
--- a text shows a report of what was counted (`counted`) as this output, with these options
-abbrev pub IsTextBy : Output → List ℕ → TableOptions → List (List ℕ) → Report → List ℕ → Type 0
-IsTextBy Picture counted options attributes r text = IsPageOf counted (drawn_number options.sort) r text
-IsTextBy (Text format) counted options attributes r text = HasSheet options attributes r text
+-- the same, of a page of HTML
+abbrev pub IsPageText : Showing → Report → List ℕ → List ℕ → Type 0
+IsPageText s r text refused = IsPageOf s.counted (drawn_number s.table.sort) r text × (refused ≡ [])
 
--- a text is that of a report of what was counted (`counted`), with these options and these columns of attributes
-abbrev pub IsTextOf : List ℕ → TableOptions → List (List ℕ) → Report → List ℕ → Type 0
-IsTextOf counted options attributes r text = IsTextBy options.output counted options attributes r text
+-- a text shows a report as this output
+abbrev pub IsTextBy : Output → Showing → Report → List ℕ → List ℕ → Type 0
+IsTextBy Picture s r text refused = IsPageText s r text refused
+IsTextBy (Text format) s r text refused = HasSheet s r text refused
+IsTextBy Paths s r text refused = HasSheet s r text refused
+
+-- a text is that of a report that is shown so
+abbrev pub IsTextOf : Showing → Report → List ℕ → List ℕ → Type 0
+IsTextOf s r text refused = IsTextBy s.table.output s r text refused
 
 -- the second report is the first with its files in another order; all else is the same
 pub record IsReordered (r left : Report) : Type 0 where
   pub files : IsPermutation r.files.items left.files.items
   pub rest : left ≡ record r { files = left.files }
 
--- a text is that of the part of a report that meets some conditions, and `left` is this part, with its files in any order
-pub record IsPrinted (counted : List ℕ) (conditions : List ConditionModel) (options : TableOptions) (attributes : List (List ℕ))
-    (r : Report) (text : List ℕ) (left : Report) : Type 0 where
+-- a text is that of the part of a report that meets the conditions, and `left` is this part, with its files in any order
+pub record IsPrinted (s : Showing) (r : Report) (text refused : List ℕ) (left : Report) : Type 0 where
   pub part : Report
-  pub is_kept : IsKept conditions r part
-  pub is_text : IsTextOf counted options attributes part text
+  pub is_kept : IsKept s.conditions r part
+  pub is_text : IsTextOf s part text refused
   pub is_left : IsReordered part left

@@ -4,7 +4,7 @@ use Rattle.std.specs.{Global.Global, List.filter_map, Str.bytes_eq}
 use Rattle.lc_arguments.specs.declared.walk_request.WalkRequest.{WalkRequest}
 use Rattle.lc_io.specs.Reads.{Answer}
 use Rattle.lc_level.specs.{Filters.{FiltersModel, attribute_of as attribute_in, narrowed}, NamedAttributes.attributes_of}
-use Rattle.lc_program.specs.{Filters.{AnswersFilters, LacksRules}, PathLists.{AnswersWanted, GivesList}, Styles.end_for}
+use Rattle.lc_program.specs.{Filters.{AnswersFilters, LacksRules}, PathLists.{AnswersWanted, GivesList, paths_wanted}, Styles.end_for}
 use Rattle.lc_program.specs.{Systems.SystemMay, declared.cause.Cause.{Cause, TheVariants.Memory}}
 use Rattle.lc_sheet.specs.AttributeColumns.{attribute_of, language_name}
 use Rattle.lc_tree.specs.declared.file_systems.FileSystems.{FileSystems, TheVariants.{All, One}}
@@ -35,7 +35,7 @@ named_in w columns = attributes_of w.filters.without.items ++ filter_map own_att
 
 module _ (may : SystemMay) {I : Type 0} (may_give : I → ℕ → Answer → I → Type 0) (w : WalkRequest) where
   -- the paths that the command line requests, with those of the list that it names, or why there are none
-  abbrev pub AnswersPathsOf : I → Result (Vec (Bor (List ℕ)) Global) Cause → I → Type 0
+  abbrev pub AnswersPathsOf : I → Result (Option (Vec (Bor (List ℕ)) Global)) Cause → I → Type 0
   AnswersPathsOf input answer read =
       ((list : Vec ℕ Global) × GivesList may_give may.hold may.unread w.only_from input (Ok list) read
       × AnswersWanted (map (λ path. path.now) w.only.items) w.only_from (end_for w.null) list.items answer)
@@ -46,8 +46,8 @@ module _ (may : SystemMay) {I : Type 0} (may_give : I → ℕ → Answer → I �
   abbrev pub IsPrepared : List (Bor (List ℕ)) → ReportLists → I → Options → I → Type 0
   IsPrepared columns wanted input o read =
       (f : FiltersModel) × AnswersFilters may.hold may.unread w.filters (map (λ column. attribute_of column.now) columns) (Ok f)
-      × ((paths : Vec (Bor (List ℕ)) Global) × AnswersPathsOf input (Ok paths) read
-      × IsAskedBy w wanted (narrowed f (map (λ path. path.now) paths.items)) o)
+      × ((paths : Option (Vec (Bor (List ℕ)) Global)) × AnswersPathsOf input (Ok paths) read
+      × IsAskedBy w wanted (narrowed f (paths_wanted paths)) o)
 
   -- there are no such options: there were no rules or no memory, and nothing was read; or there were no paths
   abbrev pub IsUnprepared : I → Cause → I → Type 0

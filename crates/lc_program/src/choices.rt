@@ -1,13 +1,17 @@
-//! Refuses a comparison of two reports if the command line has an option that chooses files of a directory, such as `--exclude`.
+//! Refuses a comparison of two reports if the command line has an option that chooses files of a directory, such as `--exclude`, and a
+//! comparison of which neither side exists.
 
 ghost use Rattle.std.specs.Prelude.{◌≡◌, ◌++◌, option_map, string_bytes, IfOk, OnOk};
-ghost use Rattle.lc_program.specs.Choices.{AnswersChoices, are_reports, choice_line, first_choice};
+ghost use Rattle.lc_program.specs.Choices.{AnswersChoices, AnswersMissing, IsMissing, are_reports, choice_line, first_choice};
+ghost use Rattle.lc_program.specs.Choices.{missing_lines};
 ghost use Rattle.lc_program.specs.ReportLines.{IsTold};
 
 use crate::cause::Cause;
 use crate::report_lines::origin_of;
 use crate::sides::is_directory;
 use crate::system::System;
+use crate::unlisted::unexplained_line;
+use crate::unread_reason::UnreadReason;
 use lc_arguments::WalkRequest;
 use lc_text::push_visible;
 use std::alloc::{AllocError, Global};
@@ -89,4 +93,50 @@ pub(crate) fn refuse_choices<Y: System>(
         return Ok(());
     }
     Err(choice_cause(alloc, option, old, new))
+}
+
+/// Returns whether the system says that a side does not exist. The side `-` is standard input.
+fn is_missing<Y: System>(alloc: Global, system: &Y, name: &str) -> Result<bool, AllocError>
+    ensures { IfOk result (IsMissing (Y.unlists system.now) name.now) }
+{
+    if name == "-" {
+        return Ok(false);
+    }
+    let why = system.why_unlisted(alloc, name)?;
+    Ok(matches!(why, Some(UnreadReason::Missing)))
+}
+
+/// Makes the lines that say that a side is missing, and how commits are compared.
+fn missing_lines(alloc: Global, old: &str) -> Result<String, AllocError>
+    ensures { IfOk result (λ lines. string_bytes lines ≡ missing_lines old.now) }
+{
+    let mut lines = unexplained_line(alloc, old, Some(UnreadReason::Missing))?;
+    lines.push_str(
+        "lc: to compare a commit: git worktree add --detach ../old COMMIT && lc diff ../old .\n",
+    )?;
+    Ok(lines)
+}
+
+fn missing_cause(alloc: Global, old: &str) -> Cause
+    ensures { IsTold (missing_lines old.now) result }
+{
+    match missing_lines(alloc, old) {
+        Ok(lines) => Cause::InReport(lines),
+        Err(AllocError) => Cause::Memory,
+    }
+}
+
+/// Returns an error if neither side exists. Their names may be those of commits.
+pub(crate) fn refuse_missing<Y: System>(
+    alloc: Global,
+    system: &Y,
+    old: &str,
+    new: &str,
+) -> Result<(), Cause>
+    ensures { AnswersMissing (Y.unlists system.now) old.now new.now result }
+{
+    if !is_missing(alloc, system, old)? || !is_missing(alloc, system, new)? {
+        return Ok(());
+    }
+    Err(missing_cause(alloc, old))
 }

@@ -1,6 +1,6 @@
 //! Answers `lc diff`: compares two directories or reports, and prints the changes.
 
-ghost use Rattle.std.specs.Prelude.{◌≡◌, true, IfOk};
+ghost use Rattle.std.specs.Prelude.{◌≡◌, string_bytes, true, IfOk};
 ghost use Rattle.lc_arguments.specs.TableWords.{number_of};
 ghost use Rattle.lc_arguments.specs.Words.{IsDiffWithinLimits};
 ghost use Rattle.lc_changes.specs.ChangeSheets.{HasFilesFor};
@@ -11,20 +11,20 @@ ghost use Rattle.lc_program.specs.Systems.{may_of};
 ghost use Rattle.lc_program.specs.declared.answered.Answered.TheVariants.{Compared};
 ghost use Rattle.lc_level.specs.NamedAttributes.{noted};
 
-use crate::answered::Answered;
+use crate::answered::{Answered, Remarks};
 use crate::attributes::{columns_of, named_attributes};
 use crate::cause::Cause;
 use crate::checking::path_end;
-use crate::choices::refuse_choices;
+use crate::choices::{refuse_choices, refuse_missing};
 use crate::comparison::Comparison;
 use crate::counting::options_of;
 use crate::filters::{narrowed, read_filters};
-use crate::path_list::{list_of, wanted_paths};
+use crate::path_list::{emptied_line, list_of, wanted_paths};
 use crate::sides::{SideOptions, both_sides};
 use crate::system::System;
 use crate::unnamed::unnamed_lines;
 use lc_arguments::{DiffRequest, TableRequest};
-use lc_changes::{ChangeOptions, ShownChanges};
+use lc_changes::{ChangeOptions, ShownChanges, keep_changes};
 use lc_formats::text;
 use lc_io::{PrintFault, Sink, Source, print};
 use lc_level::NamedAttributes;
@@ -81,7 +81,8 @@ fn compared_needs(asked: &DiffRequest<'_>) -> Needs
     ensures { result ≡ compared_needs asked.now }
 {
     let by = compared_columns(asked.table);
-    Needs::of(Some(by), &asked.conditions, asked.table.files, false)
+    let files = asked.table.files || !asked.changes.are_all();
+    Needs::of(Some(by), &asked.conditions, files, false)
 }
 
 /// Returns which lists the report of a counted directory must have.
@@ -149,6 +150,13 @@ fn print_kept<O: Sink>(
     keep(alloc, &asked.conditions, &mut new)?;
     let columns = columns_of(alloc, &asked.attributes)?;
     let options = change_options(asked, format);
+    keep_changes(
+        alloc,
+        asked.changes,
+        options.by.attributes,
+        &mut old,
+        &mut new,
+    )?;
     let differ = print_changes(alloc, &options, &columns, &old, &new, out)?;
     Ok(Comparison { old, new, differ })
 }
@@ -171,16 +179,20 @@ fn print_sides<O: Sink>(
     }
 }
 
-/// Makes the reply to a comparison, with lines about the attributes that no attribute file names.
+/// Makes the reply to a comparison, with what standard error says of the options.
 fn replied(
     alloc: Global,
+    emptied: String,
     named: &NamedAttributes,
     compared: Result<Comparison, Cause>,
 ) -> Result<Answered, Cause>
-    ensures { IsReplyWith Compared (noted named.now) compared result }
+    ensures { IsReplyWith Compared (string_bytes emptied) (noted named.now) compared result }
 {
     match compared {
-        Ok(compared) => Ok(Answered::Compared(compared, unnamed_lines(alloc, named))),
+        Ok(compared) => {
+            let unnamed = unnamed_lines(alloc, named);
+            Ok(Answered::Compared(compared, Remarks { emptied, unnamed }))
+        }
         Err(cause) => Err(cause),
     }
 }
@@ -214,7 +226,8 @@ fn compare_sides<R: Threads + Wait + Sync + AllocGlobal, Y: System, S: Source, O
     let only = asked.walk.only.as_slice();
     let end = path_end(asked.walk.null);
     let wanted = wanted_paths(rt.alloc(), only, asked.walk.only_from, end, listed)?;
-    let filters = narrowed(rt.alloc(), filters, wanted.as_slice())?;
+    let emptied = emptied_line(rt.alloc(), asked.walk.only_from, &wanted)?;
+    let filters = narrowed(rt.alloc(), filters, &wanted)?;
     let options = options_of(&asked.walk, compared_lists(asked), &filters, noted);
     let how = SideOptions {
         walk: &asked.walk,
@@ -224,7 +237,7 @@ fn compare_sides<R: Threads + Wait + Sync + AllocGlobal, Y: System, S: Source, O
     };
     let sides = both_sides(rt, system, (asked.old, asked.new), how, input);
     let compared = print_sides(rt.alloc(), asked, sides, format, out);
-    replied(rt.alloc(), noted, compared)
+    replied(rt.alloc(), emptied, noted, compared)
 }
 
 /// Compares two directories or reports, and prints the changes. `format` is the format of the output if the command line names none.
@@ -240,6 +253,7 @@ pub(crate) fn compare<R: Threads + Wait + Sync + AllocGlobal, Y: System, S: Sour
     ensures { AnswersDiff (may_of Y.Tree.Tree Y.System system.now)
         S.may_give O.may_take format asked.now input.old out.old result input.new out.new }
 {
+    refuse_missing(rt.alloc(), system, asked.old, asked.new)?;
     refuse_choices(rt.alloc(), system, &asked.walk, asked.old, asked.new)?;
     compare_sides(rt, system, asked, format, input, out)
 }

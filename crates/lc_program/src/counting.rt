@@ -1,6 +1,6 @@
 //! Answers `lc count`: counts directories, and prints the table.
 
-ghost use Rattle.std.specs.Prelude.{◌≡◌, ◌++◌, map, IfOk, OnOk};
+ghost use Rattle.std.specs.Prelude.{◌≡◌, ◌++◌, map, string_bytes, IfOk, OnOk};
 ghost use Rattle.lc_arguments.specs.Words.{IsCountWithinLimits};
 ghost use Rattle.lc_arguments.specs.TableWords.{options_in};
 ghost use Rattle.lc_program.specs.Counts.{AnswersApart, AnswersCount, Prints, after_spaces, lists_of, one_text};
@@ -13,14 +13,15 @@ ghost use Rattle.lc_walk.specs.AllColumns.{all_columns};
 ghost use Rattle.lc_rows.specs.WalkedReports.{ListsFilesFor};
 ghost use Rattle.lc_walk.specs.WalkOptions.{AreWithinLimits};
 
-use crate::answered::Answered;
+use crate::answered::{Answered, Remarks};
 use crate::attributes::{columns_of, named_attributes};
 use crate::cause::Cause;
 use crate::checking::path_end;
 use crate::filters::{narrowed, read_filters};
 use crate::finding::found;
 use crate::nested::refuse_unless_apart;
-use crate::path_list::{list_of, wanted_paths};
+use crate::path_list::{emptied_line, list_of, wanted_paths};
+use crate::runs::Printed;
 use crate::showing::table;
 use crate::system::System;
 use crate::unnamed::unnamed_lines;
@@ -29,7 +30,7 @@ use lc_board::limits::{MAX_CAPACITY, MAX_WORKERS};
 use lc_io::{Sink, Source};
 use lc_level::{Filters, NamedAttributes};
 use lc_sheet::{Columns, Format, ReportOptions, needs_files};
-use lc_walk::{Options, Report, ReportLists};
+use lc_walk::{Options, ReportLists};
 use std::alloc::{AllocError, Global};
 use std::sync::Wait;
 use std::thread::Threads;
@@ -43,7 +44,7 @@ fn lists_of(asked: &CountRequest<'_>) -> ReportLists
     ensures { result ≡ lists_of asked.now }
 {
     ReportLists {
-        files: asked.table.files
+        files: asked.table.lists_files()
             || asked.table.by.unwrap_or(Columns::ALL).are_of_files()
             || asked.table.is_picture()
             || needs_files(&asked.conditions),
@@ -100,7 +101,7 @@ fn print_found<R: Threads + Wait + Sync + AllocGlobal, Y: System, O: Sink>(
     options: &Options<'_>,
     format: Format,
     out: &mut O,
-) -> Result<Report, Cause>
+) -> Result<Printed, Cause>
     requires limits { AreWithinLimits options.now }
     requires files { ListsFilesFor options.now (options_in format all_columns asked.now.table) }
     ensures { Prints (may_of Y.Tree.Tree Y.System system.now)
@@ -114,21 +115,26 @@ fn print_found<R: Threads + Wait + Sync + AllocGlobal, Y: System, O: Sink>(
         conditions: &asked.conditions,
         attributes: &columns,
         counted: &counted,
+        end: path_end(asked.walk.null),
     };
-    table(rt.alloc(), &mut report, shown, out)?;
-    Ok(report)
+    let refused = table(rt.alloc(), &mut report, shown, out)?;
+    Ok(Printed { report, refused })
 }
 
-/// Makes the reply to a count, with lines about the attributes that no attribute file names.
+/// Makes the reply to a count, with what standard error says of the options.
 fn replied(
     alloc: Global,
+    emptied: String,
     named: &NamedAttributes,
-    counted: Result<Report, Cause>,
+    counted: Result<Printed, Cause>,
 ) -> Result<Answered, Cause>
-    ensures { IsReplyWith Counted (noted named.now) counted result }
+    ensures { IsReplyWith Counted (string_bytes emptied) (noted named.now) counted result }
 {
     match counted {
-        Ok(report) => Ok(Answered::Counted(report, unnamed_lines(alloc, named))),
+        Ok(printed) => {
+            let unnamed = unnamed_lines(alloc, named);
+            Ok(Answered::Counted(printed, Remarks { emptied, unnamed }))
+        }
         Err(cause) => Err(cause),
     }
 }
@@ -161,10 +167,11 @@ fn count_apart<R: Threads + Wait + Sync + AllocGlobal, Y: System, S: Source, O: 
     let only = asked.walk.only.as_slice();
     let end = path_end(asked.walk.null);
     let wanted = wanted_paths(rt.alloc(), only, asked.walk.only_from, end, listed)?;
-    let filters = narrowed(rt.alloc(), filters, wanted.as_slice())?;
+    let emptied = emptied_line(rt.alloc(), asked.walk.only_from, &wanted)?;
+    let filters = narrowed(rt.alloc(), filters, &wanted)?;
     let options = options_of(&asked.walk, lists_of(asked), &filters, noted);
     let counted = print_found(rt, system, asked, &options, format, out);
-    replied(rt.alloc(), noted, counted)
+    replied(rt.alloc(), emptied, noted, counted)
 }
 
 /// Counts directories and prints the table. `format` is the format of the table if the command line names none.

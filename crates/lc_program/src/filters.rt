@@ -6,6 +6,7 @@ ghost use Rattle.lc_level.specs.Filters.{narrowed};
 ghost use Rattle.lc_level.specs.RuleReads.{shared};
 ghost use Rattle.lc_program.specs.Filters.{AnswersExcluded, AnswersFilters, AnswersPatterns, Assigns, IsAttributesCause, LacksAttributes};
 ghost use Rattle.lc_program.specs.Filters.{words_of};
+ghost use Rattle.lc_program.specs.PathLists.{paths_wanted};
 ghost use Rattle.lc_rules.specs.AttrLines.{attribute_file_of};
 ghost use Rattle.lc_sheet.specs.AttributeColumns.{attribute_of};
 
@@ -132,15 +133,28 @@ fn asked_by(alloc: Global, columns: &[&str]) -> Result<Vec<Vec<u8>>, AllocError>
     Ok(asked)
 }
 
-/// Returns the filters with these paths, sorted, as the paths to count. If there are no paths, the whole tree is counted.
+/// Returns these paths, sorted, or all of a tree if they are `None`.
+fn only_of<'p>(
+    alloc: Global,
+    wanted: &'p Option<Vec<&'_ [u8]>>,
+) -> Result<OnlyPaths<'p>, AllocError>
+    ensures { IfOk result (λ only. only ≡ paths_wanted wanted.entry.now) }
+{
+    match wanted {
+        None => Ok(OnlyPaths::none(alloc)),
+        Some(paths) => OnlyPaths::new(alloc, paths),
+    }
+}
+
+/// Returns the filters with these paths as the paths to count. If they are `None`, the whole tree is counted.
 pub(crate) fn narrowed<'p>(
     alloc: Global,
     filters: Filters<'_>,
-    paths: &'p [&'_ [u8]],
+    wanted: &'p Option<Vec<&'_ [u8]>>,
 ) -> Result<Filters<'p>, AllocError>
-    ensures { IfOk result (λ f. f ≡ narrowed filters.entry (map (λ path. path.now) paths.entry.now)) }
+    ensures { IfOk result (λ f. f ≡ narrowed filters.entry (paths_wanted wanted.entry.now)) }
 {
-    let only = OnlyPaths::new(alloc, paths)?;
+    let only = only_of(alloc, wanted)?;
     Ok(Filters {
         exclude_from: filters.exclude_from,
         attributes_from: filters.attributes_from,

@@ -22,7 +22,7 @@
 //! - `finding`: the report of the counted directories
 //! - `nested`: refusing to count a directory that lies in another counted directory
 //! - `sides`: the two sides of a comparison, which are directories or reports
-//! - `choices`: refusing options that choose files, if both sides of a comparison are reports
+//! - `choices`: refusing options that choose files, if both sides of a comparison are reports, or if neither side exists
 //! - `runs`: the walk of a tree, and the table of its report
 //! - `showing`: making and writing the text of a report
 //! - `ending`, `cause`: how the program ends, and why it stops with an error
@@ -32,8 +32,8 @@
 //! - `faults`: the lines on standard error about what a count or a sum could not read
 //! - `side_faults`: the lines on standard error about paths that could not be read on either side of a comparison
 //! - `unlisted`: the lines on standard error about a directory that could not be read
-//! - `unnamed`: the lines on standard error about attributes that no attribute file names
-//! - `unmatched`: the lines on standard error about patterns that can match nothing
+//! - `unnamed`: the lines on standard error about attributes that no attribute file names, and about a list without paths
+//! - `unmatched`, `meant`: the lines on standard error about patterns that can match nothing, or may mean something else
 //! - `hints`: the hint on standard error that rules in the directories above a counted directory were not read
 //! - `commands`: the commands that the lines on standard error suggest
 #![tactic(auto)]
@@ -55,6 +55,7 @@ mod filters;
 mod finding;
 mod hints;
 mod introducing;
+mod meant;
 mod named_texts;
 mod nested;
 mod path_list;
@@ -81,7 +82,7 @@ pub use cause::Cause;
 pub use ending::Ending;
 pub use repository::Repository;
 pub use running::program;
-pub use runs::{RunFault, run};
+pub use runs::{Printed, RunFault, run};
 pub use showing::{report_text, table};
 pub use streams::{Streams, Terminals};
 pub use system::System;

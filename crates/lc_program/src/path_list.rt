@@ -6,7 +6,7 @@ ghost use Rattle.std.specs.List.{list_any};
 ghost use Rattle.lc_text.specs.PathLines.{is_top};
 ghost use Rattle.lc_program.specs.Causes.{bad_path_line, no_path_line};
 ghost use Rattle.lc_program.specs.PathLists.{AnswersList, AnswersListed, AnswersNamed, AnswersWanted, GivesList, IsListCause};
-ghost use Rattle.lc_program.specs.PathLists.{is_bad_listed};
+ghost use Rattle.lc_program.specs.PathLists.{emptied_line, is_bad_listed, paths_wanted};
 
 use crate::cause::Cause;
 use crate::named_texts::named_text;
@@ -109,9 +109,6 @@ fn paths_of<'l>(
         paths.push(path)?;
         rest = others;
     }
-    if paths.is_empty() {
-        return Err(Cause::BadPaths(no_path_line(alloc, file)?));
-    }
     Ok(paths)
 }
 
@@ -144,20 +141,37 @@ fn has_top(paths: &[&[u8]]) -> bool
     paths.iter().any(|path| is_top(path))
 }
 
-/// Returns the paths to count: the paths of the command line and of the list that it names. If one of them is the counted directory itself,
-/// the result is empty, which means all of the directory.
+/// Returns the paths to count: the paths of the command line and of the list that it names. The result is `None`, which means all of the
+/// directory, if the command line names neither, or if one of the paths is the counted directory itself.
 pub(crate) fn wanted_paths<'w: 'l, 'l>(
     alloc: Global,
     only: &[&'w [u8]],
     file: Option<&str>,
     end: PathEnd,
     list: &'l [u8],
-) -> Result<Vec<&'l [u8]>, Cause>
+) -> Result<Option<Vec<&'l [u8]>>, Cause>
     ensures { AnswersWanted (map (λ path. path.now) only.now) file.entry end list.now result }
 {
+    if only.is_empty() && file.is_none() {
+        return Ok(None);
+    }
     let paths = named_paths(alloc, only, file, end, list)?;
     if has_top(&paths) {
-        return Ok(Vec::new(alloc));
+        return Ok(None);
     }
-    Ok(paths)
+    Ok(Some(paths))
+}
+
+/// Makes the line that says that the file of `--only-from` has no path, if nothing is counted for this reason. The line is empty otherwise.
+pub(crate) fn emptied_line(
+    alloc: Global,
+    file: Option<&str>,
+    wanted: &Option<Vec<&[u8]>>,
+) -> Result<String, AllocError>
+    ensures { IfOk result (λ line. string_bytes line ≡ emptied_line file.entry (paths_wanted wanted.now)) }
+{
+    match (file, wanted) {
+        (Some(file), Some(paths)) if paths.is_empty() => no_path_line(alloc, file),
+        _ => Ok(String::new(alloc)),
+    }
 }

@@ -1,7 +1,7 @@
 //! Runs the program: carries out the request of the arguments with the directories and files of a `System`, and writes to the streams.
 
 ghost use Rattle.std.specs.Prelude.{◌≡◌, ◌&&◌, map, nat_lt};
-ghost use Rattle.lc_program.specs.Program.{Advises, Comments, Ends, EndsTyped, TellsUnread, status_of, streams_may};
+ghost use Rattle.lc_program.specs.Program.{Advises, Comments, Ends, EndsTyped, TellsRefused, TellsUnread, status_of, streams_may};
 ghost use Rattle.lc_program.specs.Replies.{ending_of, has_failure};
 ghost use Rattle.lc_program.specs.Systems.{may_of};
 ghost use Rattle.lc_program.specs.declared.ending.Ending.{Ending};
@@ -13,16 +13,17 @@ use crate::ending::Ending;
 use crate::faults::tell_faults;
 use crate::hints::hint;
 use crate::introducing::introduce;
+use crate::meant::tell_meant;
 use crate::side_faults::{SideFaults, tell_side_faults};
 use crate::streams::{Streams, Terminals};
 use crate::system::System;
-use crate::telling::{give_up, misuse, show};
+use crate::telling::{give_up, misuse, show, tell};
 use crate::typed::read_as;
 use crate::unlisted::tell_unlisted;
 use crate::unmatched::unmatched_in;
-use crate::unnamed::tell_unnamed;
+use crate::unnamed::tell_remarks;
 use lc_arguments::{ParseExit, Request};
-use lc_io::{Sink, Source, print};
+use lc_io::{Sink, Source};
 use lc_paths::Outcome;
 use lc_sheet::Format;
 use lc_walk::Report;
@@ -44,19 +45,19 @@ fn tell_unread<Y: System, E: Sink>(
     ensures { TellsUnread E.may_take (Y.unlists system.now) format request.now answered.now err.old err.new }
 {
     match (request, answered) {
-        (Request::Count(asked), Answered::Counted(report, _)) => {
+        (Request::Count(asked), Answered::Counted(printed, _)) => {
             tell_faults(
                 alloc,
                 system,
                 &asked.directories,
                 asked.table.output(format),
-                &report.faults,
+                &printed.report.faults,
                 err,
             );
         }
-        (Request::Sum(asked), Answered::Summed(report)) => {
+        (Request::Sum(asked), Answered::Summed(printed)) => {
             let output = asked.table.output(format);
-            tell_faults(alloc, system, &[], output, &report.faults, err);
+            tell_faults(alloc, system, &[], output, &printed.report.faults, err);
         }
         (Request::Diff(asked), Answered::Compared(compared, _)) => {
             let old = SideFaults {
@@ -76,7 +77,16 @@ fn tell_unread<Y: System, E: Sink>(
     }
 }
 
-/// Writes to standard error what could not be read, and which attributes of the command line no attribute file names.
+/// Writes to standard error the lines about paths that the text lacks.
+fn tell_refused<E: Sink>(answered: &Answered, err: &mut E)
+    ensures { TellsRefused E.may_take answered.now err.old err.new }
+{
+    if let Answered::Counted(printed, _) | Answered::Summed(printed) = answered {
+        tell(&printed.refused, err);
+    }
+}
+
+/// Writes to standard error what could not be read, which paths the text lacks, and what there is to say of the options.
 fn comment<Y: System, E: Sink>(
     alloc: Global,
     system: &Y,
@@ -88,7 +98,9 @@ fn comment<Y: System, E: Sink>(
     ensures { Comments E.may_take (Y.unlists system.now) terminals request.now answered.now err.old err.new }
 {
     tell_unread(alloc, system, request, answered, terminals.format(), err);
-    tell_unnamed(answered, err);
+    tell_refused(answered, err);
+    tell_remarks(answered, err);
+    tell_meant(alloc, request, answered, err);
 }
 
 /// Returns whether `fail_if_any` is set and the printed report has a file.
@@ -104,10 +116,12 @@ fn has_failure(request: &Request<'_>, answered: &Answered) -> bool
     ensures { result ≡ has_failure request.now answered.now }
 {
     match (request, answered) {
-        (Request::Count(asked), Answered::Counted(report, _)) => {
-            is_failure(asked.fail_if_any, report)
+        (Request::Count(asked), Answered::Counted(printed, _)) => {
+            is_failure(asked.fail_if_any, &printed.report)
         }
-        (Request::Sum(asked), Answered::Summed(report)) => is_failure(asked.fail_if_any, report),
+        (Request::Sum(asked), Answered::Summed(printed)) => {
+            is_failure(asked.fail_if_any, &printed.report)
+        }
         (Request::Diff(asked), Answered::Compared(compared, _)) => {
             asked.fail_if_any && compared.differ
         }
@@ -139,8 +153,7 @@ fn advise<Y: System, E: Sink>(
 )
     ensures { Advises E.may_take (Y.lies system.now) stderr_is_terminal request.now lines.now err.old err.new }
 {
-    // Nothing depends on these lines, so a line that can't be written changes nothing.
-    let _ = print(err, lines.as_bytes());
+    tell(lines, err);
     hint(alloc, system, request, stderr_is_terminal, err);
 }
 
@@ -201,8 +214,8 @@ fn end_of_typed<
 }
 
 /// Runs the program with the arguments `typed`, and returns the exit status. The status is 0 for success, and 1 if the answer was written
-/// but some paths could not be read. The status is 2 for refused arguments, and 3 if the program stopped with an error, with one line on
-/// `err`. The status is 4, instead of 0 or 1, if `--fail-if-any` is used, and a counted file meets the conditions of `--where` or the sides
+/// but some paths could not be read or printed. The status is 2 for refused arguments, and 3 if the program stopped with an error, which
+/// `err` shows. The status is 4, instead of 0 or 1, if `--fail-if-any` is used, and a counted file meets the conditions of `--where` or the sides
 /// of a comparison differ.
 ///
 /// The arguments decide what the program does:
@@ -221,8 +234,8 @@ fn end_of_typed<
 /// If the program reads standard input from a terminal, a line on `err` first says what the program reads. If standard output is a
 /// terminal, checks and explanations escape paths and patterns that a terminal would not show safely. A table is printed in columns on a
 /// terminal if no format is named. If standard error is a terminal, a hint may follow the table of a count. `err` also gets lines about
-/// paths that could not be read, the reason why a directory could not be read, and lines about patterns of the arguments that can match
-/// nothing.
+/// paths that could not be read or printed, the reason why a directory could not be read, a line about a list without paths, and lines about
+/// patterns of the arguments that can match nothing or may mean something else.
 pub fn program<
     R: Threads + Wait + Sync + AllocGlobal,
     Y: System,

@@ -3,6 +3,7 @@
 ghost use Rattle.std.specs.Prelude.{◌≡◌};
 ghost use Rattle.lc_walk.specs.WalkOptions.{AreWithinLimits};
 ghost use Rattle.lc_walk.specs.Walks.{Walks};
+ghost use Rattle.lc_program.specs.ReportTexts.{showing_of};
 ghost use Rattle.lc_program.specs.Runs.{AnswersRun, table_fault};
 ghost use Rattle.lc_rows.specs.WalkedReports.{ListsFilesFor};
 ghost use Rattle.lc_program.specs.declared.runs.RunFault.TheVariants.{Walk};
@@ -31,6 +32,15 @@ pub enum RunFault {
     Write,
 }
 
+/// A report whose table was written.
+#[derive(Drop)]
+pub struct Printed {
+    /// The report, without the files that do not meet the conditions.
+    pub report: Report,
+    /// An error line for each path that the output `Paths` lacks: without `-0`, each path with a line feed.
+    pub refused: String,
+}
+
 impl From<WalkFault> for RunFault {
     ghost from_gives = { λ walk fault. fault ≡ Walk walk };
 
@@ -51,7 +61,7 @@ impl From<PrintFault> for RunFault {
 }
 
 /// Walks a tree, drops from its report the files that do not meet the conditions, and writes the table of the remaining report ([`table`]).
-/// Returns the remaining report.
+/// Returns the remaining report, and the lines about paths that the text lacks.
 ///
 /// If the table has rows by directories or attributes, the function requires that `options` request the list of files. A condition on a
 /// number or an attribute is tested on the files in this list.
@@ -59,9 +69,9 @@ impl From<PrintFault> for RunFault {
 /// ```
 /// let tree = SysTree::new(&rt, rt.alloc(), "src", FileSystems::All)?;
 /// let table = TableOptions { output: Output::Text(Format::Tsv), by: Columns::ALL, sort: None, top: None, files: false, share: false };
-/// let shown = ReportOptions { table, conditions: &[], attributes: &[], counted: b"src" };
-/// let report = run(&rt, rt.alloc(), &tree, &options, shown, &mut out)?;
-/// assert!(report.faults.is_empty());
+/// let shown = ReportOptions { table, conditions: &[], attributes: &[], counted: b"src", end: PathEnd::LineFeed };
+/// let printed = run(&rt, rt.alloc(), &tree, &options, shown, &mut out)?;
+/// assert!(printed.report.faults.is_empty());
 /// ```
 pub fn run<T: Tree, R: Threads + Wait + Sync, O: Sink>(
     rt: &R,
@@ -70,14 +80,13 @@ pub fn run<T: Tree, R: Threads + Wait + Sync, O: Sink>(
     options: &Options<'_>,
     shown: ReportOptions<'_>,
     out: &mut O,
-) -> Result<Report, RunFault>
+) -> Result<Printed, RunFault>
     requires limits { AreWithinLimits options.now }
     requires files { ListsFilesFor options.now shown.table }
     ensures { AnswersRun O.may_take (Walks (T.lists tree.now) (T.gives tree.now) options.now)
-        shown.entry.counted.now shown.entry.conditions.now shown.entry.table
-        shown.entry.attributes.now out.old result out.new }
+        (showing_of shown.entry) out.old result out.new }
 {
     let mut report = walk(rt, alloc, tree, options)?;
-    table(alloc, &mut report, shown, out)?;
-    Ok(report)
+    let refused = table(alloc, &mut report, shown, out)?;
+    Ok(Printed { report, refused })
 }

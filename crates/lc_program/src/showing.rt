@@ -1,55 +1,88 @@
 //! Making and writing the text of a report.
 
-ghost use Rattle.std.specs.Prelude.{IfOk};
-ghost use Rattle.lc_program.specs.ReportTexts.{HasSheet, IsPrinted, IsReordered, IsTextOf};
+ghost use Rattle.std.specs.Prelude.{◌≡◌, IfOk, string_bytes};
+ghost use Rattle.lc_program.specs.ReportTexts.{HasSheet, IsPageText, IsPrinted, IsReordered, IsTextOf, IsWrittenAs, showing_of};
 ghost use Rattle.lc_program.specs.Runs.{AnswersTable};
 ghost use Rattle.lc_rows.specs.WalkedReports.{HasFilesFor};
 
-use lc_formats::text;
+use lc_formats::{PathsText, paths_text, text};
 use lc_io::{PrintFault, Sink, print};
 use lc_picture::page;
 use lc_rows::{Shown, keep, sort_files};
-use lc_sheet::{AttributeColumn, Output, ReportOptions, TableOptions};
+use lc_sheet::{Lines, Output, ReportOptions, Sheet};
+use lc_text::PathEnd;
 use lc_walk::Report;
 use std::alloc::{AllocError, Global};
+
+/// Makes the text of a sheet in a format, or of the paths that the sheet lists. Only paths can be refused.
+fn written<R: Lines, T: Lines, F: Lines, S: Lines, E: Lines>(
+    alloc: Global,
+    output: Output,
+    end: PathEnd,
+    sheet: &Sheet<'_, R, T, F, S, E>,
+) -> Result<PathsText, AllocError>
+    ensures { IfOk result (λ made. IsWrittenAs output end sheet.now made.text.items (string_bytes made.refused)) }
+{
+    if output == Output::Paths {
+        return paths_text(alloc, end, sheet);
+    }
+    let text = text(alloc, output.sheet_format(), sheet)?;
+    Ok(PathsText {
+        text,
+        refused: String::new(alloc),
+    })
+}
 
 /// Makes the text of the sheet of a report.
 fn sheet_text(
     alloc: Global,
     report: &mut Report,
-    options: TableOptions,
-    attributes: &[AttributeColumn],
-) -> Result<Vec<u8>, AllocError>
-    requires files { HasFilesFor options report.now.lists }
-    ensures text { IfOk result (λ text. HasSheet options attributes.now report.old text.items) }
+    shown: ReportOptions<'_>,
+) -> Result<PathsText, AllocError>
+    requires files { HasFilesFor shown.table report.now.lists }
+    ensures text { IfOk result (λ made. HasSheet (showing_of shown.entry) report.old made.text.items (string_bytes made.refused)) }
     ensures left { IsReordered report.old report.new }
 {
-    sort_files(options.sort, &mut report.files);
-    let shown = Shown::of(alloc, report, &options, attributes)?;
-    let sheet = shown.sheet();
-    let text = text(alloc, options.output.sheet_format(), &sheet)?;
-    Ok(text)
+    sort_files(shown.table.sort, &mut report.files);
+    let parts = Shown::of(alloc, report, &shown.table, shown.attributes)?;
+    let sheet = parts.sheet();
+    let made = written(alloc, shown.table.output, shown.end, &sheet)?;
+    Ok(made)
 }
 
-/// Makes the text of a report. A picture is a page of HTML whose heading is `counted`, which says what was counted.
+/// Makes the page of HTML of a report, whose heading says what was counted.
+fn page_text(
+    alloc: Global,
+    report: &mut Report,
+    shown: ReportOptions<'_>,
+) -> Result<PathsText, AllocError>
+    ensures text { IfOk result (λ made. IsPageText (showing_of shown.entry) report.old made.text.items (string_bytes made.refused)) }
+    ensures left { IsReordered report.old report.new }
+{
+    let text = page(alloc, shown.counted, report, shown.table.sort)?;
+    Ok(PathsText {
+        text,
+        refused: String::new(alloc),
+    })
+}
+
+/// Makes the text of a report, whether or not its files meet the conditions of `shown`.
 ///
 /// The function may sort the report's list of files. If the table has rows by directories or attributes, the function requires that the
 /// report has this list. A picture shows the files in this list. An error means that an allocation failed, or that sums or shares overflow.
 /// The sums and shares of a walk never overflow.
 pub fn report_text(
     alloc: Global,
-    counted: &[u8],
     report: &mut Report,
-    options: TableOptions,
-    attributes: &[AttributeColumn],
-) -> Result<Vec<u8>, AllocError>
-    requires files { HasFilesFor options report.now.lists }
-    ensures text { IfOk result (λ text. IsTextOf counted.now options attributes.now report.old text.items) }
+    shown: ReportOptions<'_>,
+) -> Result<PathsText, AllocError>
+    requires files { HasFilesFor shown.table report.now.lists }
+    ensures text { IfOk result (λ made. IsTextOf (showing_of shown.entry) report.old made.text.items (string_bytes made.refused)) }
     ensures left { IsReordered report.old report.new }
 {
-    match options.output {
-        Output::Picture => page(alloc, counted, report, options.sort),
-        Output::Text(_) => sheet_text(alloc, report, options, attributes),
+    match shown.table.output {
+        Output::Picture => page_text(alloc, report, shown),
+        Output::Text(_) | Output::Paths => sheet_text(alloc, report, shown),
     }
 }
 
@@ -57,39 +90,30 @@ pub fn report_text(
 fn part_text(
     alloc: Global,
     report: &mut Report,
-    options: ReportOptions<'_>,
-) -> Result<Vec<u8>, AllocError>
-    requires files { HasFilesFor options.table report.now.lists }
-    ensures { IfOk result (λ text. IsPrinted options.entry.counted.now options.entry.conditions.now options.entry.table
-        options.entry.attributes.now report.old
-        text.items report.new) }
+    shown: ReportOptions<'_>,
+) -> Result<PathsText, AllocError>
+    requires files { HasFilesFor shown.table report.now.lists }
+    ensures { IfOk result (λ made. IsPrinted (showing_of shown.entry) report.old made.text.items (string_bytes made.refused) report.new) }
 {
-    keep(alloc, options.conditions, report)?;
-    let text = report_text(
-        alloc,
-        options.counted,
-        report,
-        options.table,
-        options.attributes,
-    )?;
-    Ok(text)
+    keep(alloc, shown.conditions, report)?;
+    let made = report_text(alloc, report, shown)?;
+    Ok(made)
 }
 
-/// Drops from a report the files that do not meet the conditions, and writes the text of the remaining report ([`report_text`]).
+/// Drops from a report the files that do not meet the conditions, and writes the text of the remaining report ([`report_text`]). Returns
+/// the lines about paths that the text lacks.
 ///
 /// The function may sort the remaining files.
 pub fn table<O: Sink>(
     alloc: Global,
     report: &mut Report,
-    options: ReportOptions<'_>,
+    shown: ReportOptions<'_>,
     out: &mut O,
-) -> Result<(), PrintFault>
-    requires files { HasFilesFor options.table report.now.lists }
-    ensures { AnswersTable O.may_take options.entry.counted.now options.entry.conditions.now options.entry.table
-        options.entry.attributes.now report.old report.new
-        out.old result out.new }
+) -> Result<String, PrintFault>
+    requires files { HasFilesFor shown.table report.now.lists }
+    ensures { AnswersTable O.may_take (showing_of shown.entry) report.old report.new out.old result out.new }
 {
-    let text = part_text(alloc, report, options)?;
-    print(out, &text)?;
-    Ok(())
+    let made = part_text(alloc, report, shown)?;
+    print(out, &made.text)?;
+    Ok(made.refused)
 }

@@ -11,8 +11,10 @@ ghost use Rattle.lc_rows.specs.WalkedReports.{HasFilesFor};
 use crate::answered::Answered;
 use crate::attributes::columns_of;
 use crate::cause::Cause;
+use crate::checking::path_end;
 use crate::report_files::read_all;
 use crate::report_lines::cause_of_sum;
+use crate::runs::Printed;
 use crate::showing::table;
 use crate::system::System;
 use lc_arguments::{NamedReport, SumRequest};
@@ -61,18 +63,18 @@ fn one_text(alloc: Global, reports: &[NamedReport<'_>]) -> Result<Vec<u8>, Alloc
 fn needed_by(asked: &SumRequest<'_>) -> Needs
     ensures { result ≡ needed_by asked.now }
 {
-    let files = asked.table.files || asked.table.is_picture();
+    let files = asked.table.lists_files() || asked.table.is_picture();
     Needs::of(asked.table.by, &asked.conditions, files, asked.left_out)
 }
 
-/// Prints the table of the part of a sum that meets the conditions, and returns this part.
+/// Prints the table of the part of a sum that meets the conditions.
 fn print_sum<O: Sink>(
     alloc: Global,
     asked: &SumRequest<'_>,
     sum: Report,
     format: Format,
     out: &mut O,
-) -> Result<Report, Cause>
+) -> Result<Printed, Cause>
     requires files { HasFilesFor (options_in format sum.columns asked.now.table) sum.lists }
     ensures { PrintsSum O.may_take format asked.now sum out.old result out.new }
 {
@@ -83,10 +85,11 @@ fn print_sum<O: Sink>(
         conditions: &asked.conditions,
         attributes: &columns,
         counted: &counted,
+        end: path_end(asked.null),
     };
     let mut report = sum;
-    table(alloc, &mut report, options, out)?;
-    Ok(report)
+    let refused = table(alloc, &mut report, options, out)?;
+    Ok(Printed { report, refused })
 }
 
 /// Adds up reports that were read, and prints the table of the sum.
@@ -96,7 +99,7 @@ fn sum_parts<O: Sink>(
     parts: Vec<Part<'_>>,
     format: Format,
     out: &mut O,
-) -> Result<Report, Cause>
+) -> Result<Printed, Cause>
     ensures { PrintsParts O.may_take format asked.now parts.entry.items out.old result out.new }
 {
     match summed(alloc, parts, needed_by(asked)) {
@@ -120,6 +123,6 @@ pub(crate) fn sum<Y: System, S: Source, O: Sink>(
 {
     let columns = columns_of(alloc, &asked.attributes)?;
     let parts = read_all(alloc, system, &columns, &asked.reports, input)?;
-    let report = sum_parts(alloc, asked, parts, format, out)?;
-    Ok(Answered::Summed(report))
+    let printed = sum_parts(alloc, asked, parts, format, out)?;
+    Ok(Answered::Summed(printed))
 }

@@ -10,13 +10,20 @@ use crate::ending::Ending;
 use lc_io::{Sink, print};
 use std::alloc::{AllocError, Global};
 
+/// Writes a text to standard error.
+pub(crate) fn tell<E: Sink>(text: &str, err: &mut E)
+    ensures { Tells E.may_take err.old text.now err.new }
+{
+    // Nothing depends on the text, so a text that can't be written changes nothing.
+    let _ = print(err, text.as_bytes());
+}
+
 /// Writes why the arguments are refused, and returns the ending for refused arguments.
 pub fn misuse<E: Sink>(why: &str, err: &mut E) -> Ending
     ensures ending { result ≡ ending.Misused }
     ensures told { Tells E.may_take err.old why.now err.new }
 {
-    // The exit status shows the refusal too, so a text that can't be written changes nothing.
-    let _ = print(err, why.as_bytes());
+    tell(why, err);
     Ending::Misused
 }
 

@@ -1,12 +1,13 @@
-//! The lines on standard error about attributes that no attribute file names.
+//! The lines on standard error about attributes that no attribute file names, and about a list without paths.
 
 ghost use Rattle.std.specs.Prelude.{◌≡◌, ◌++◌, string_bytes, IfOk, OnOk};
 ghost use Rattle.lc_level.specs.NamedAttributes.{noted};
-ghost use Rattle.lc_program.specs.Program.{TellsUnnamed};
+ghost use Rattle.lc_program.specs.Program.{TellsBoth, TellsRemarks};
 ghost use Rattle.lc_program.specs.Unnamed.{AreUnnamedLines, unnamed_line, unnamed_lines_of};
 
-use crate::answered::Answered;
-use lc_io::{Sink, print};
+use crate::answered::{Answered, Remarks};
+use crate::telling::tell;
+use lc_io::Sink;
 use lc_level::NamedAttributes;
 use lc_text::push_visible;
 use std::alloc::{AllocError, Global};
@@ -49,12 +50,21 @@ pub(crate) fn unnamed_lines(alloc: Global, named: &NamedAttributes) -> String
     }
 }
 
-/// Writes to standard error which attributes no attribute file names, if the answer is a count or a comparison.
-pub(crate) fn tell_unnamed<E: Sink>(answered: &Answered, err: &mut E)
-    ensures { TellsUnnamed E.may_take answered.now err.old err.new }
+/// Writes to standard error that a list has no path, and which attributes no attribute file names.
+fn tell_both<E: Sink>(remarks: &Remarks, err: &mut E)
+    ensures { TellsBoth E.may_take remarks.now err.old err.new }
 {
-    if let Answered::Counted(_, unnamed) | Answered::Compared(_, unnamed) = answered {
-        // Nothing depends on these lines, so a line that can't be written changes nothing.
-        let _ = print(err, unnamed.as_bytes());
+    tell(&remarks.emptied, err);
+    tell(&remarks.unnamed, err);
+}
+
+/// Writes to standard error what there is to say of the options, if the answer is a count or a comparison.
+pub(crate) fn tell_remarks<E: Sink>(answered: &Answered, err: &mut E)
+    ensures { TellsRemarks E.may_take answered.now err.old err.new }
+{
+    match answered {
+        Answered::Counted(_, remarks) => tell_both(remarks, err),
+        Answered::Compared(_, remarks) => tell_both(remarks, err),
+        _ => {}
     }
 }

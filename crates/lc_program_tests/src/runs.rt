@@ -10,6 +10,7 @@ mod explanations;
 mod failures;
 mod hints;
 mod mem_system;
+mod paths;
 mod reasons;
 mod several;
 mod sums;

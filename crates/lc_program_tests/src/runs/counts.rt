@@ -303,7 +303,9 @@ const CASES: &[Case<'static>] = &[
     Case {
         name: "an_input_without_paths",
         words: &["count", "--only-from", "-", "top"],
-        status: 3,
+        out: b"ext\ttext\teol\tfiles\tlines\tblank\tbytes\n\
+               total\t*\t*\t0\t0\t0\t0\n\
+               directories\t1\n",
         err: b"lc: no path in -\n",
         ..WORKED
     },

@@ -69,12 +69,12 @@ const DIRECTORIES: &[Case<'static>] = &[
         name: "the_largest_change_of_lines_first",
         top: TOP,
         words: &["diff", "--format", "table", "top", "other"],
-        out: b"ext    files      lines      blank     bytes\n\
-               ------------------------------------------------\n\
-               .c         0  -1      0  -3      0  0      0  -6\n\
-               .x         1  +1      2  +2      0  0      4  +4\n\
-               ------------------------------------------------\n\
-               total      1   0      2  -1      0  0      4  -2\n",
+        out: b"ext    files      lines               blank     bytes\n\
+               ---------------------------------------------------------\n\
+               .c         0  -1      0  -3  -100.0%      0  0      0  -6\n\
+               .x         1  +1      2  +2      new      0  0      4  +4\n\
+               ---------------------------------------------------------\n\
+               total      1   0      2  -1   -33.3%      0  0      4  -2\n",
         ..EMPTY
     },
     Case {
@@ -128,9 +128,17 @@ const REPORTED: &[Case<'static>] = &[
     },
     Case {
         name: "nothing_of_this_name",
-        words: &["diff", "gone", "top"],
+        words: &["diff", "gone", "other.json"],
         why: Some(UnreadReason::Missing),
         err: b"lc: cannot read gone: no such file or directory\n",
+        ..REFUSED
+    },
+    Case {
+        name: "nothing_of_either_name",
+        words: &["diff", "main", "HEAD"],
+        why: Some(UnreadReason::Missing),
+        err: b"lc: cannot read main: no such file or directory\n\
+               lc: to compare a commit: git worktree add --detach ../old COMMIT && lc diff ../old .\n",
         ..REFUSED
     },
     Case {

@@ -1,8 +1,11 @@
-use Rattle.std.proofs.{Common.{◌∙◌, ℕ, List, ap, inl, inr, map, refl, subst}, lemmas.Result.IfOk-weaker}
-use Rattle.lc_program.specs.{Differences.{compared_lists, compared_needs}, Replies.IsReplyWith, Systems.{SystemMay, may_of}}
+use Rattle.std.proofs.{Common.{◌∙◌, Ok, ap, inl, inr, map, refl}, lemmas.Result.IfOk-weaker}
+use Rattle.lc_level.specs.Filters.{FiltersModel}
+use Rattle.lc_program.specs.{Differences.{compared_lists, compared_needs}, Systems.{SystemMay, may_of}}
 use Rattle.lc_program.specs.WalkRequests.{columns_of, named_in}
 use Rattle.lc_program.specs.declared.{answered.Answered.TheVariants.Compared, cause.Cause.TheVariants.Memory}
-use Rattle.lc_program.proofs.{ComparedNeeds.{files_needed, sides_given}, FiltersAsked.{asked_by_all, memory_wanted}, Loading.given_up}
+use Rattle.lc_program.proofs.ComparedNeeds.{files_needed, sides_given}
+use Rattle.lc_program.proofs.FiltersAsked.{asked_by_all, emptied_by, memory_wanted, same_reply, same_wanted}
+use Rattle.lc_program.proofs.Loading.{given_up}
 use Rattle.lc_program.proofs.comparing.compare_sides.Goals as goal
 
 pub returns-in_err-filters : goal.returns-in_err-filters
@@ -45,7 +48,16 @@ returns-in_err-wanted g c =
       refl,
     )
 
--- paths that could not be sorted are none, for want of memory
+-- memory may be refused to the line about the list, and to the paths when they are sorted
+pub returns-in_err-emptied : goal.returns-in_err-emptied
+returns-in_err-emptied g c =
+    inr (
+      Memory,
+      inr (inl (c.in_ok-list.list, c.in_ok-list.ensures, memory_wanted _ c.args.asked.now.walk.only_from _ c.in_ok-list.list.items)),
+      given_up c.from_residual-in_err-emptied.result Memory c.from_residual-in_err-emptied.ensures.1,
+      refl,
+    )
+
 pub returns-in_err-filters-2 : goal.returns-in_err-filters-2
 returns-in_err-filters-2 g c =
     inr (
@@ -82,11 +94,12 @@ returns g c =
           inl (
             c.in_ok-list.list,
             c.in_ok-list.ensures,
-            rw (c.as_slice-only.ensures.value, c.path_end-end.ensures, c.as_slice-listed.ensures.value) at c.in_ok-wanted.ensures,
+            same_wanted _ _ c.args.asked.now.walk.only_from _ _ _ _ (Ok c.in_ok-wanted.wanted)
+                (ap (map (λ path. path.now)) c.as_slice-only.ensures.value) c.path_end-end.ensures c.as_slice-listed.ensures.value
+                c.in_ok-wanted.ensures,
           ),
-          asked_by_all c.args.asked.now.walk _ (compared_lists c.args.asked.now) c.in_ok-filters.filters _ _ _ _
-              c.compared_lists.ensures c.options_of-options.ensures c.in_ok-filters-2.ensures
-              (ap (map (λ path. path.now)) c.as_slice.ensures.value),
+          asked_by_all c.args.asked.now.walk _ (compared_lists c.args.asked.now) c.in_ok-filters.filters _ _ _
+              c.compared_lists.ensures c.options_of-options.ensures c.in_ok-filters-2.ensures,
         ),
       ),
       (
@@ -97,7 +110,9 @@ returns g c =
             c.both_sides-sides.ensures.gives,
         (
           c.print_sides-compared.result,
-          subst (λ (l : List (List ℕ)). IsReplyWith Compared l c.print_sides-compared.result c.replied.result)
+          same_reply Compared _ _ _ _ c.print_sides-compared.result c.replied.result
+              (emptied_by d.walk.only_from c.in_ok-emptied.emptied _ _ c.in_ok-emptied.ensures
+              (ap (λ (f : FiltersModel). f.only) (c.options_of-options.ensures.filters ∙ c.in_ok-filters-2.ensures)))
               (c.in_ok-named.ensures ∙ ap (named_in d.walk) c.deref-2.ensures.value) c.replied.ensures,
           c.print_sides-compared.ensures,
         ),

@@ -1,8 +1,10 @@
-use Rattle.std.proofs.Common.{◌≡◌, ◌∙◌, ◌||◌, ℕ, Bool, true, false, List, ap, inl, inr, map, refl, subst}
-use Rattle.lc_program.specs.{Counts.lists_of, Replies.IsReplyWith, WalkRequests.named_in}
+use Rattle.std.proofs.Common.{◌≡◌, ◌∙◌, ◌||◌, Bool, true, false, Ok, ap, inl, inr, map, refl}
+use Rattle.lc_arguments.specs.TableWords.{lists_files}
+use Rattle.lc_level.specs.Filters.{FiltersModel}
+use Rattle.lc_program.specs.{Counts.lists_of, WalkRequests.named_in}
 use Rattle.lc_program.specs.declared.{answered.Answered.TheVariants.Counted, cause.Cause.TheVariants.Memory}
 use Rattle.lc_walk.specs.declared.options.ReportLists.{ReportLists}
-use Rattle.lc_program.proofs.{FiltersAsked.{asked_by_all, memory_wanted}, Loading.given_up}
+use Rattle.lc_program.proofs.{FiltersAsked.{asked_by_all, emptied_by, memory_wanted, same_reply, same_wanted}, Loading.given_up}
 use Rattle.lc_program.proofs.counting.count_apart.Goals as goal
 
 pub returns-in_err-filters : goal.returns-in_err-filters
@@ -41,7 +43,16 @@ returns-in_err-wanted g c =
       refl,
     )
 
--- paths that could not be sorted are none, for want of memory
+-- memory may be refused to the line about the list, and to the paths when they are sorted
+pub returns-in_err-emptied : goal.returns-in_err-emptied
+returns-in_err-emptied g c =
+    inr (
+      Memory,
+      inr (inl (c.in_ok-list.list, c.in_ok-list.ensures, memory_wanted _ c.args.asked.now.walk.only_from _ c.in_ok-list.list.items)),
+      given_up c.from_residual-in_err-emptied.result Memory c.from_residual-in_err-emptied.ensures.1,
+      refl,
+    )
+
 pub returns-in_err-filters-2 : goal.returns-in_err-filters-2
 returns-in_err-filters-2 g c =
     inr (
@@ -59,7 +70,7 @@ listed false b c d is = ap (λ x. x || c || d) is
 pub print_found-counted-requires-clause-files : goal.print_found-counted-requires-clause-files
 print_found-counted-requires-clause-files g c κs within by_directory =
     ap (λ (lists : ReportLists). lists.files) (c.options_of-options.ensures.lists ∙ c.lists_of.ensures)
-    ∙ listed c.args.asked.now.table.files _ _ _ by_directory
+    ∙ listed (lists_files c.args.asked.now.table) _ _ _ by_directory
 
 pub returns : goal.returns
 returns g c =
@@ -73,15 +84,19 @@ returns g c =
           inl (
             c.in_ok-list.list,
             c.in_ok-list.ensures,
-            rw (c.as_slice-only.ensures.value, c.path_end-end.ensures, c.as_slice-listed.ensures.value) at c.in_ok-wanted.ensures,
+            same_wanted _ _ c.args.asked.now.walk.only_from _ _ _ _ (Ok c.in_ok-wanted.wanted)
+                (ap (map (λ path. path.now)) c.as_slice-only.ensures.value) c.path_end-end.ensures c.as_slice-listed.ensures.value
+                c.in_ok-wanted.ensures,
           ),
-          asked_by_all c.args.asked.now.walk _ (lists_of c.args.asked.now) c.in_ok-filters.filters _ _ _ _ c.lists_of.ensures
-              c.options_of-options.ensures c.in_ok-filters-2.ensures (ap (map (λ path. path.now)) c.as_slice.ensures.value),
+          asked_by_all c.args.asked.now.walk _ (lists_of c.args.asked.now) c.in_ok-filters.filters _ _ _ c.lists_of.ensures
+              c.options_of-options.ensures c.in_ok-filters-2.ensures,
         ),
       ),
       (
         c.print_found-counted.result,
-        subst (λ (l : List (List ℕ)). IsReplyWith Counted l c.print_found-counted.result c.replied.result)
+        same_reply Counted _ _ _ _ c.print_found-counted.result c.replied.result
+            (emptied_by c.args.asked.now.walk.only_from c.in_ok-emptied.emptied _ _ c.in_ok-emptied.ensures
+            (ap (λ (f : FiltersModel). f.only) (c.options_of-options.ensures.filters ∙ c.in_ok-filters-2.ensures)))
             (c.in_ok-named.ensures ∙ ap (named_in c.args.asked.now.walk) c.deref.ensures.value) c.replied.ensures,
         c.print_found-counted.ensures,
       ),
