@@ -1,9 +1,9 @@
 -- A shell reads a quoted text as the text.
-use Rattle.std.proofs.Common.{◌≡◌, ℕ, ◌==◌, Bool, true, false, List, [], ◌∷◌, ◌++◌, if◌then◌else◌, Option, Some, refl, sym, ◌∙◌, ap}
+use Rattle.std.proofs.Common.{◌≡◌, ℕ, ◌==◌, Bool, true, false, not, List, [], ◌∷◌, ◌++◌, if◌then◌else◌, Option, Some, refl, sym, ◌∙◌, ap}
 use Rattle.std.proofs.{Common.{flat_map, option_map, subst}, lemmas.Bool.{eqb-true, and_parts, false_from_ne_true}}
 use Rattle.std.specs.List.{list_all}
 use Rattle.lc_glob.specs.Bytes.{backslash}
-use Rattle.lc_text.specs.{Quoting.{apostrophe, is_shell_plain, quote_byte, in_quotes, quoted}, ShellWords.{outside, in_single, word_text}}
+use Rattle.lc_text.specs.{Quoting.{apostrophe, is_plain_word, is_shell_plain, quote_byte, in_quotes, quoted}, ShellWords.{outside, in_single, word_text}}
 use Rattle.lc_text.specs.ShellWords.{QuotedLaw}
 
 -- inside the quotes
@@ -35,14 +35,14 @@ read_plain (b ∷ bs) e =
 
 pub quoted_law : QuotedLaw
 quoted_law [] = ((λ e. cc e), refl)
-quoted_law (b ∷ bs) = at (list_all is_shell_plain (b ∷ bs)) refl
+quoted_law (b ∷ bs) = at (is_plain_word (b ∷ bs)) refl
   where
     Reads : List ℕ → Type 0
     Reads word = (word ≡ [] → ⊥) × (word_text outside word ≡ Some (b ∷ bs))
 
-    at : (q : Bool) → list_all is_shell_plain (b ∷ bs) ≡ q
-        → Reads (if list_all is_shell_plain (b ∷ bs) then b ∷ bs else in_quotes (b ∷ bs))
+    at : (q : Bool) → is_plain_word (b ∷ bs) ≡ q → Reads (if is_plain_word (b ∷ bs) then b ∷ bs else in_quotes (b ∷ bs))
     at true e =
-        subst (λ (q : Bool). Reads (if q then b ∷ bs else in_quotes (b ∷ bs))) (sym e) ((λ h. cc h), read_plain (b ∷ bs) e)
+        subst (λ (q : Bool). Reads (if q then b ∷ bs else in_quotes (b ∷ bs))) (sym e)
+        ((λ h. cc h), read_plain (b ∷ bs) (and_parts (list_all is_shell_plain (b ∷ bs)) (not (b == 61)) e).0)
     at false e =
         subst (λ (q : Bool). Reads (if q then b ∷ bs else in_quotes (b ∷ bs))) (sym e) ((λ h. cc h), read_in_single (b ∷ bs))

@@ -2,7 +2,7 @@
 
 ghost use Rattle.std.specs.Prelude.{◌≡◌, ◌++◌, OnOk, encode_utf8, flat_map, string_bytes};
 ghost use Rattle.std.specs.List.{list_all};
-ghost use Rattle.lc_text.specs.Quoting.{is_shell_plain, quote_byte, quoted};
+ghost use Rattle.lc_text.specs.Quoting.{is_plain_word, is_shell_plain, quote_byte, quoted};
 
 use std::alloc::AllocError;
 
@@ -16,6 +16,16 @@ fn are_shell_plain(word: &[u8]) -> bool
     ensures { result ≡ list_all is_shell_plain word.now }
 {
     word.iter().all(|b| is_shell_plain(*b))
+}
+
+/// Returns whether a shell takes a word as it is. In zsh a word that begins with `=` is the path of a command.
+fn is_plain_word(word: &[u8]) -> bool
+    ensures { result ≡ is_plain_word word.now }
+{
+    match word.split_first() {
+        None => false,
+        Some((first, _)) => are_shell_plain(word) && *first != b'=',
+    }
 }
 
 /// Appends a character as it is written inside single quotes.
@@ -47,7 +57,7 @@ fn push_each_quoted(text: &mut String, word: &str) -> Result<(), AllocError>
 pub fn push_quoted(text: &mut String, word: &str) -> Result<(), AllocError>
     ensures { OnOk result (string_bytes text.new ≡ string_bytes text.old ++ quoted word.now) }
 {
-    if !word.is_empty() && are_shell_plain(word.as_bytes()) {
+    if is_plain_word(word.as_bytes()) {
         return text.push_str(word);
     }
     text.push_str("'")?;

@@ -1,4 +1,4 @@
-//! Quoting words for a shell. In dash and in bash, the command `printf '%s\n'` followed by the expected text of a word prints this word.
+//! Quoting words for a shell. In dash, bash and zsh, the command `printf '%s\n'` followed by the expected text of a word prints this word.
 
 use lc_text::push_quoted;
 use std::process::Abort;
@@ -11,6 +11,8 @@ const CASES: &[Case] = &[
     ("", "''"),
     ("src/main.c", "src/main.c"),
     ("azAZ09_./:=@%+,-", "azAZ09_./:=@%+,-"),
+    ("=ls", "'=ls'"),
+    ("a=ls", "a=ls"),
     ("a b", "'a b'"),
     ("it's", "'it'\\''s'"),
     ("'", "''\\'''"),
