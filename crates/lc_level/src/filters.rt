@@ -50,8 +50,8 @@ pub struct Filters<'p> {
     /// such as `linguist-vendored`, the attribute must be Set. With `ATTR=VALUE`, such as `linguist-generated=true`, it must have exactly
     /// this value. `export-ignore` is the attribute by which `git archive` skips entries.
     pub without: Vec<Vec<u8>>,
-    /// The paths of `--only`. They select the entries at these paths, everything under these entries, and the directories above them. If none
-    /// are given, everything is selected.
+    /// The paths that are counted: they select the entries at these paths, everything under these entries, and the directories above them.
+    /// If there is no list of paths, everything is selected.
     pub only: OnlyPaths<'p>,
     /// The names of attributes. Each counted file has the states of these attributes, in this order.
     pub asked: Vec<Vec<u8>>,
