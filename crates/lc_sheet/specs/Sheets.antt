@@ -1,7 +1,7 @@
 -- A sheet: what a report shows, as sections of lines, each with a value in each column.
 use Rattle.std.specs.Prelude.{ℕ, Bool, List, map, Option}
 use Rattle.lc_sheet.specs.{Values.ValueModel, declared.{column.Column.Column, table_options.Format.{Format, TheVariants.{Table, Csv}}}}
-use Rattle.lc_sheet.specs.declared.table_options.Output.{Output, TheVariants.{Text, Picture, Paths}}
+use Rattle.lc_sheet.specs.declared.table_options.Output.{Output, TheVariants.{Text, Picture, Tree, Paths}}
 
 -- a section: a word that may name its lines, the names of columns of attributes, its columns, and for each line its values in these columns
 pub record SectionModel : Type 0 where
@@ -32,8 +32,9 @@ pub record SheetModel : Type 0 where
   pub skipped : Option SectionModel
   pub faults : Option SectionModel
 
--- the format of the sheet that is shown: a picture draws the sheet of a table, and paths are those of the sheet of csv
+-- the format of the sheet that is shown: a picture draws the sheet of a table, a tree is read as one, and paths are those of the sheet of csv
 abbrev pub sheet_format : Output → Format
 sheet_format (Text format) = format
 sheet_format Picture = Table
+sheet_format Tree = Table
 sheet_format Paths = Csv

@@ -30,20 +30,23 @@ pub enum Format {
 pub enum Output {
     /// The text of a table.
     Text(Format),
-    /// A page of HTML, in place of rows, with bars for the 20 largest extensions, and boxes for large directories and files.
+    /// A page of HTML, in place of rows, with boxes for large directories and files, and bars for the 20 largest extensions.
     Picture,
+    /// Boxes as a picture has them, each as a line for a terminal. The directories are those down to the depth of `Columns`.
+    Tree,
     /// The paths of the listed files, or of the skipped entries if these are listed, as they are, for other programs.
     Paths,
 }
 
 impl Output {
-    /// Returns the format of the sheet that is shown: a picture draws the sheet of a `Table`, and paths are those of the sheet of a `Csv`.
+    /// Returns the format of the sheet that is shown: a picture draws the sheet of a `Table`, a tree is read as one, and paths are those of
+    /// the sheet of a `Csv`.
     pub fn sheet_format(self) -> Format
         ensures { result ≡ sheet_format self }
     {
         match self {
             Output::Text(format) => format,
-            Output::Picture => Format::Table,
+            Output::Picture | Output::Tree => Format::Table,
             Output::Paths => Format::Csv,
         }
     }
@@ -147,7 +150,7 @@ pub enum Order {
 /// ```
 #[derive(Debug, Clone, Copy, PartialEq, Eq)]
 pub struct TableOptions {
-    /// What the report is shown as: a text in some format, or a picture.
+    /// What the report is shown as: a text in some format, a picture, a tree, or paths.
     pub output: Output,
     /// The columns that the table's rows are grouped by.
     pub by: Columns,
@@ -172,8 +175,10 @@ pub struct ReportOptions<'c> {
     pub conditions: &'c [Condition<'c>],
     /// The columns of the attributes that were asked for: those that rows are grouped by, and then those that only conditions test.
     pub attributes: &'c [AttributeColumn],
-    /// The counted directories, or the summed reports, as the command line names them. A page of HTML shows them at its top.
-    pub counted: &'c [u8],
+    /// What was counted or summed, in a few words. Pictures and trees show this title.
+    pub title: &'c [u8],
+    /// Which files were chosen, such as `where ext=.c, without build/`, or nothing if no option chooses files. A picture shows this text.
+    pub chosen: &'c [u8],
     /// What ends each path of the output `Paths`.
     pub end: PathEnd,
 }
