@@ -1,8 +1,8 @@
 -- Files that have boxes in those of their directories.
-use Rattle.std.proofs.Common.{◌≡◌, Bool, true, false, bytes_eq, cond, List, [], ◌∷◌, ◌++◌, map, suc, zero, refl, ap, ◌∙◌, arith}
+use Rattle.std.proofs.Common.{◌≡◌, Bool, true, false, bytes_eq, cond, List, [], ◌∷◌, ◌++◌, map, suc, zero, refl, ap, ◌∙◌, ◌+◌, arith, subst}
 use Rattle.std.proofs.lemmas.List.Elements.{Contains-append_left, Contains-append_right}
 use Rattle.std.specs.List.{Contains, filter}
-use Rattle.lc_picture.specs.{Boxes.BoxModel, Files.{FileBoxModel, file_box, files_in, is_large, with_files}, Laws.LargeLaw}
+use Rattle.lc_picture.specs.{Boxes.{BoxModel, moved}, Files.{FileBoxModel, file_box, files_in, is_large, with_files}, Laws.LargeLaw}
 
 -- ---- elements of a list
 
@@ -39,20 +39,26 @@ in_map g x (y ∷ ys) among =
 
 -- ---- files
 
+-- the box of a file in a box with as many around it, and one more
+abbrev in_box : BoxModel → FileBoxModel → BoxModel
+in_box b f = moved (b.depth + 1) f.drawn.own_name f.drawn
+
 in_directories : (fs : List FileBoxModel) (f : FileBoxModel) (b : BoxModel) (bs : List BoxModel) → Contains fs f
-    → bytes_eq b.path f.parent ≡ true → Contains bs b → Contains (with_files fs bs) f.drawn
+    → bytes_eq b.path f.parent ≡ true → Contains bs b → Contains (with_files fs bs) (in_box b f)
 in_directories fs f b [] has e among = none_in b among
 in_directories fs f b (d ∷ ds) has e among =
-    let rest : List BoxModel = files_in d.path fs ++ with_files fs ds in
+    let own : List FileBoxModel = filter (λ (g : FileBoxModel). bytes_eq d.path g.parent) fs in
+    let files : List BoxModel = files_in d.path (d.depth + 1) fs in
     by_place b d ds among
-    (λ same. further_on f.drawn d rest
-    (Contains-append_left (files_in d.path fs) (with_files fs ds) f.drawn
-    (in_map (λ (g : FileBoxModel). g.drawn) f (filter (λ (g : FileBoxModel). bytes_eq d.path g.parent) fs)
-    (in_filter (λ (g : FileBoxModel). bytes_eq d.path g.parent) f fs (ap (λ (c : BoxModel). bytes_eq c.path f.parent) same ∙ e) has))))
-    (λ later. further_on f.drawn d rest
-    (Contains-append_right (files_in d.path fs) (with_files fs ds) f.drawn (in_directories fs f b ds has e later)))
+    (λ same. further_on (in_box b f) d (files ++ with_files fs ds)
+    (Contains-append_left files (with_files fs ds) (in_box b f)
+    (subst (λ (c : BoxModel). Contains files (in_box c f)) same
+    (in_map (in_box d) f own
+    (in_filter (λ (g : FileBoxModel). bytes_eq d.path g.parent) f fs (ap (λ (c : BoxModel). bytes_eq c.path f.parent) same ∙ e) has)))))
+    (λ later. further_on (in_box b f) d (files ++ with_files fs ds)
+    (Contains-append_right files (with_files fs ds) (in_box b f) (in_directories fs f b ds has e later)))
 
 pub large_law : LargeLaw
-large_law n by least chart fs directories f b listed large among own =
-    in_directories (map (file_box n chart) (filter (is_large by least) fs)) (file_box n chart f) b directories
-    (in_map (file_box n chart) f (filter (is_large by least) fs) (in_filter (is_large by least) f fs large listed)) own among
+large_law n by least fs directories f b listed large among own =
+    in_directories (map (file_box n) (filter (is_large by least) fs)) (file_box n f) b directories
+    (in_map (file_box n) f (filter (is_large by least) fs) (in_filter (is_large by least) f fs large listed)) own among

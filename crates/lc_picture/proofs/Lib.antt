@@ -2,6 +2,7 @@ pub mod Texts
 pub mod Steps
 pub mod Lines
 pub mod References
+pub mod Spaces
 pub mod Outlines
 pub mod ReportShown
 pub mod ChartColours
@@ -14,3 +15,5 @@ pub mod Branches
 pub mod Pages
 pub mod Nesting
 pub mod InsideBoxes
+pub mod ChainLaws
+pub mod ChainDepths

@@ -1,9 +1,10 @@
 -- Boxes that are opened and closed.
-use Rattle.std.proofs.Common.{◌≡◌, ℕ, ◌+◌, ◌-◌, ◌≤◌, ◌==◌, nat_le, Bool, true, false, List, [], ◌∷◌, ◌++◌, min, Some, None, if◌then◌else◌}
-use Rattle.std.proofs.{Common.{suc, zero, refl, sym, ap, ◌∙◌, append_assoc, arith, codes}, lemmas.{Bool.ne_eqb, List.append-nil}}
+use Rattle.std.proofs.Common.{◌≡◌, ℕ, ◌+◌, ◌-◌, ◌≤◌, ◌==◌, nat_le, nat_lt, Bool, true, false, List, [], ◌∷◌, ◌++◌, min, Some, None, if◌then◌else◌}
+use Rattle.std.proofs.{Common.{suc, zero, refl, sym, ap, ◌∙◌, append_assoc, arith}, lemmas.{Bool.ne_eqb, List.append-nil}}
 use Rattle.lc_picture.specs.{declared.{scale.Scale.Scale, small_directories.SmallDirectories.SmallDirectories}, Boxes.{BoxModel, boxes_in}}
-use Rattle.lc_picture.specs.Boxes.{closings, is_open, opening, others_in, others_space, small_box, small_number, space, tag_end}
-use Rattle.lc_picture.specs.{Laws.{NestingLaw, open_after}, Pieces.{Piece, markup}}
+use Rattle.lc_picture.specs.Boxes.{closings, is_open, opening, rest_in, space, tag_end}
+use Rattle.lc_picture.specs.{Laws.{NestingLaw, open_after}, Pieces.Piece}
+use Rattle.lc_picture.proofs.Spaces.{space_with}
 
 one_closed : (n : ℕ) (ps : List Piece) → 1 ≤ n → (if n == 0 then None else open_after (n - 1) ps) ≡ open_after (n - 1) ps
 one_closed n ps some = let open_box : (n == 0) ≡ false = ne_eqb n 0 (λ none. absurd (omega arith)) in rw open_box refl
@@ -19,30 +20,29 @@ tag_ended_after : (n : ℕ) (is : Bool) (ps : List Piece) → open_after n (tag_
 tag_ended_after n true ps = refl
 tag_ended_after n false ps = refl
 
-word_after : (n : ℕ) (one : Bool) (ps : List Piece)
-    → open_after n (markup (if one then codes " small directory: " else codes " small directories: ") ∷ ps) ≡ open_after n ps
-word_after n true ps = refl
-word_after n false ps = refl
+-- there may be a rest
+space_after : (n : ℕ) (scale : Scale) (colour : ℕ) (s : SmallDirectories) (rest : ℕ) (some none one others : Bool) (ps : List Piece)
+    → open_after n (space_with scale colour s rest some none one others ++ ps) ≡ open_after n ps
+space_after n scale colour s rest false none one others ps = refl
+space_after n scale colour s rest true true one others ps = refl
+space_after n scale colour s rest true false true true ps = refl
+space_after n scale colour s rest true false true false ps = refl
+space_after n scale colour s rest true false false true ps = refl
+space_after n scale colour s rest true false false false ps = refl
 
--- there may be small directories
-space_after : (n : ℕ) (scale : Scale) (s : SmallDirectories) (left : ℕ) (is_file some : Bool) (ps : List Piece)
-    → open_after n ((if is_file then [] else (if some then small_box scale s else []) ++ others_space left) ++ ps) ≡ open_after n ps
-space_after n scale s left true some ps = refl
-space_after n scale s left false true ps = word_after n (s.count == 1) ((small_number scale s.number ++ others_space left) ++ ps)
-space_after n scale s left false false ps = refl
-
-opened_after : (n : ℕ) (scale : Scale) (b : BoxModel) (left : ℕ) (ps : List Piece)
-    → open_after n (opening scale b left ++ ps) ≡ open_after (n + 1) ps
-opened_after n scale b left ps =
-    tag_ended_after (n + 1) (is_open b.depth) (space scale b.is_file b.small left ++ ps)
-    ∙ space_after (n + 1) scale b.small left b.is_file (nat_le 1 b.small.count) ps
+opened_after : (n : ℕ) (scale : Scale) (b : BoxModel) (rest : ℕ) (ps : List Piece)
+    → open_after n (opening scale b rest ++ ps) ≡ open_after (n + 1) ps
+opened_after n scale b rest ps =
+    tag_ended_after (n + 1) (is_open b.depth) (space scale b.rest_colour b.small rest ++ ps)
+    ∙ space_after (n + 1) scale b.rest_colour b.small rest (nat_le 1 rest) (b.small.number == 0) (b.small.count == 1)
+    (nat_lt b.small.number rest) ps
 
 all_closed : (scale : Scale) (within : ℕ) (bs : List BoxModel) → open_after within (boxes_in scale within bs) ≡ Some 0
 all_closed scale within [] =
     let none : within - within ≡ 0 = omega arith in
     ap (open_after within) (sym (append-nil (closings within))) ∙ closed_after within within [] (omega arith) ∙ ap (λ (n : ℕ). Some n) none
 all_closed scale within (b ∷ bs) =
-    let left = others_in scale.by b bs in
+    let left = rest_in scale.by b bs in
     let rest = boxes_in scale (min within b.depth + 1) bs in
     let open_boxes : within - (within - b.depth) ≡ min within b.depth = omega arith in
     ap (open_after within) (append_assoc (closings (within - b.depth)) (opening scale b left) rest)

@@ -5,10 +5,8 @@ use Rattle.lc_rows.specs.{Kinds.{extension_value, row_value, sums_value}, RowKey
 use Rattle.lc_rows.specs.{Sheets.{others_lines, sheet_of}, Views.ViewModel}
 use Rattle.lc_sheet.specs.{Sheets.{line_of, lines_of}, declared.{column.{Column.Column, Number.Number}, form.Form.Form}}
 use Rattle.lc_walk.specs.declared.{report.Report.Report, tally.sums.Sums.Sums}
-use Rattle.lc_text.specs.Visible.{visible_path}
 use Rattle.lc_picture.specs.Laws.{ReportLaw, cell_counts, row_counts, shown_of_boxes, shown_of_faults, shown_of_line, shown_of_others}
-use Rattle.lc_picture.specs.{Laws.{shown_of_row, shown_of_value, visible_extension}, Page.{chart_options, scale_of}, Pieces.{Piece, name}}
-use Rattle.lc_picture.specs.Pieces.{title}
+use Rattle.lc_picture.specs.{Laws.{shown_of_row, shown_of_title, shown_of_value, visible_extension}, Page.{chart_options, scale_of}, Pieces.{Piece, name}}
 use Rattle.lc_picture.proofs.Outlines.{shown_law}
 
 extension_shows : (e : Option (List ℕ)) → shown_of_value (extension_value e) ≡ name (visible_extension e) ∷ []
@@ -38,8 +36,8 @@ others_show by r v None = refl
 others_show by r v (Some s) = refl
 
 pub report_law : ReportLaw
-report_law counted by r v boxes =
-    shown_law counted (scale_of by r.totals) r.faults.items (sheet_of (chart_options by) [] r v) boxes
-    ∙ ap₂ (λ (ps qs : List Piece). (title (visible_path counted) ∷ name (visible_path counted) ∷ cell_counts r.totals)
-    ++ (shown_of_faults r.faults.items ++ ((ps ++ qs) ++ shown_of_boxes (scale_of by r.totals) boxes))) (rows_show by r v v.rows)
+report_law named chosen by r v boxes =
+    shown_law named chosen (scale_of by r.totals) r.faults.items (sheet_of (chart_options by) [] r v) boxes
+    ∙ ap₂ (λ (ps qs : List Piece). (shown_of_title named chosen ++ cell_counts r.totals)
+    ++ (shown_of_faults r.faults.items ++ (shown_of_boxes (scale_of by r.totals) boxes ++ (ps ++ qs)))) (rows_show by r v v.rows)
     (others_show by r v v.others)

@@ -1,8 +1,6 @@
--- The colours of extensions and of directories. Here a colour is a number.
-use Rattle.std.specs.Prelude.{ℕ, ◌+◌, nat_lt, Bool, true, false, bytes_eq, if◌then◌else◌, min, max, List, [], ◌∷◌, unwrap_or, Option}
-use Rattle.std.specs.Prelude.{Some, None}
-use Rattle.lc_rows.specs.{RowKeys.ShownRowModel, ShownRows.number_in}
-use Rattle.lc_sheet.specs.declared.column.Number.{Number}
+-- The colours of extensions, and the rows of directories that decide theirs. Here a colour is a number.
+use Rattle.std.specs.Prelude.{ℕ, ◌+◌, Bool, true, false, bytes_eq, if◌then◌else◌, min, List, [], ◌∷◌, unwrap_or, Option, Some, None}
+use Rattle.lc_rows.specs.RowKeys.{ShownRowModel}
 
 abbrev pub same_extension : Option (List ℕ) → Option (List ℕ) → Bool
 same_extension None None = true
@@ -31,12 +29,7 @@ abbrev pub rows_from : List ℕ → List ShownRowModel → List ShownRowModel
 rows_from directory [] = []
 rows_from directory (k ∷ ks) = if bytes_eq directory (path_of k) then k ∷ ks else rows_from directory ks
 
--- the colour of the extension with the largest number in a directory, whose rows come first. Of equal numbers the first counts. `number` is
--- the largest number of the rows before, and `colour` goes with it
-abbrev pub main_colour : List ShownRowModel → Number → List ℕ → ℕ → ℕ → List ShownRowModel → ℕ
-main_colour chart by directory number colour [] = colour
-main_colour chart by directory number colour (k ∷ ks) =
-    if bytes_eq directory (path_of k)
-    then main_colour chart by directory (max number (number_in by k.sums))
-    (if nat_lt number (number_in by k.sums) then colour_of chart k.key.tally.extension else colour) ks
-    else colour
+-- the first of such rows, as many as are of this directory
+abbrev pub first_rows_of : List ℕ → List ShownRowModel → List ShownRowModel
+first_rows_of directory [] = []
+first_rows_of directory (k ∷ ks) = if bytes_eq directory (path_of k) then k ∷ first_rows_of directory ks else []

@@ -1,6 +1,6 @@
 -- The statements of the laws about pages.
 use Rattle.std.specs.Prelude.{◌≡◌, ◌+◌, ◌*◌, ◌-◌, ℕ, nat_eq, Bool, true, false, if◌then◌else◌, List, [], ◌∷◌, ◌++◌, map, flat_map, codes}
-use Rattle.std.specs.{Prelude.{◌==◌, ◌<◌, bytes_eq, length, nat_le, nat_lt, take, Option, Some, None}, List.{Contains, filter, list_any}}
+use Rattle.std.specs.{Prelude.{◌==◌, ◌<◌, ◌≤◌, ⊤, bytes_eq, length, nat_le, nat_lt, take, Option, Some, None}, List.{Contains, filter, list_any}}
 use Rattle.std.specs.List.{slice_index_or}
 use Rattle.lc_rows.specs.{Directories.directory_of, RowKeys.ShownRowModel, SheetLaws.first_number, Sheets.sheet_of, ShownRows.AreShown}
 use Rattle.lc_rows.specs.{ShownRows.number_in, Views.ViewModel}
@@ -8,8 +8,8 @@ use Rattle.lc_sheet.specs.{Sheets.{SectionModel, SheetModel}, Values.ValueModel,
 use Rattle.lc_sheet.specs.declared.column.Number.TheVariants.{Files, Lines, Blank, Bytes}
 use Rattle.lc_walk.specs.{TallyRows.TallyRowModel, declared.{report.Report.Report, tally.sums.Sums.Sums}}
 use Rattle.lc_text.specs.{Names.named, Visible.{visible_bytes, visible_path}}
-use Rattle.lc_picture.specs.{Boxes.{BoxModel, box_of, boxes_in, drawn_boxes, others_in}, Chart.line_colour, Colours.colour_of}
-use Rattle.lc_picture.specs.{Escaping.html, Faults.faults_listed, Files.{box_of_file, is_large, large_files, with_files}}
+use Rattle.lc_picture.specs.{Boxes.{BoxModel, box_of, boxes_in, drawn_boxes, moved, rest_in}, Chains.{goes_on, joined}, Chart.line_colour}
+use Rattle.lc_picture.specs.{Colours.colour_of, Escaping.html, Faults.faults_listed, Files.{box_of_file, is_large, large_files, with_files}}
 use Rattle.lc_picture.specs.{Page.{chart_columns, chart_options, chart_view, page_pieces, scale_of}, Pieces.{Piece, count, markup, name}}
 use Rattle.lc_picture.specs.{Pieces.{percent, share, title, word}, Small.no_directories, declared.scale.Scale.Scale}
 use Rattle.lc_picture.specs.declared.small_directories.SmallDirectories.{SmallDirectories}
@@ -52,10 +52,20 @@ is_shown (name t) = true
 abbrev pub counts : Sums → List Piece
 counts s = count s.lines ∷ count s.files ∷ count s.blank ∷ count s.bytes ∷ []
 
--- what the head of a page shows: what was counted, in the title and on the page, and the numbers of the totals
-abbrev pub shown_of_head : List ℕ → SectionModel → List Piece
-shown_of_head counted totals =
-    title (visible_path counted) ∷ name (visible_path counted) ∷ count (first_number Files totals) ∷ count (first_number Lines totals)
+-- what a page shows of the chosen files
+abbrev pub shown_of_chosen : List ℕ → List Piece
+shown_of_chosen [] = []
+shown_of_chosen (b ∷ bs) = name (visible_path (b ∷ bs)) ∷ []
+
+-- the title and the chosen files, in the browser's title and on the page
+abbrev pub shown_of_title : List ℕ → List ℕ → List Piece
+shown_of_title named chosen =
+    title (visible_path named) ∷ (shown_of_chosen chosen ++ name (visible_path named) ∷ shown_of_chosen chosen)
+
+-- what the head of a page shows: the title, the chosen files, and the numbers of the totals
+abbrev pub shown_of_head : List ℕ → List ℕ → SectionModel → List Piece
+shown_of_head named chosen totals =
+    shown_of_title named chosen ++ count (first_number Files totals) ∷ count (first_number Lines totals)
     ∷ count (first_number Blank totals) ∷ count (first_number Bytes totals) ∷ []
 
 -- what the list of errors shows: how many there are, the path and the word of each of the first, and how many more
@@ -92,35 +102,34 @@ shown_of_line values = flat_map shown_of_value values
 abbrev pub share_in : Scale → Sums → Piece
 share_in scale s = percent (number_in scale.by s) scale.whole
 
--- what the box of small directories shows, if there are some: how many they are, their number, and its share
-abbrev pub shown_of_small : Scale → SmallDirectories → List Piece
-shown_of_small scale s = if nat_le 1 s.count then count s.count ∷ count s.number ∷ percent s.number scale.whole ∷ [] else []
+-- what the name of a rest shows: how many small directories are in it, if these have a number
+abbrev pub shown_of_small : SmallDirectories → List Piece
+shown_of_small s = if s.number == 0 then [] else count s.count ∷ []
 
--- what a directory's box shows for what is right in it and in no box of its own: the small directories, and the number of the other files
-abbrev pub shown_of_space : Scale → BoxModel → ℕ → List Piece
-shown_of_space scale b left = if b.is_file then [] else shown_of_small scale b.small ++ count left ∷ []
+-- what a box shows for its rest, if this has a number: its name, its number and its share
+abbrev pub shown_of_space : Scale → SmallDirectories → ℕ → List Piece
+shown_of_space scale s rest = if nat_le 1 rest then shown_of_small s ++ count rest ∷ percent rest scale.whole ∷ [] else []
 
--- what a box shows: the path, the sums and the share; the name, with the number that is drawn and the share once more; and for a directory
--- what is right in it and in no box of its own
+-- what a box shows: the path, the sums and the share; the name, with the number that is drawn and the share once more; and the rest
 abbrev pub shown_of_box : Scale → BoxModel → ℕ → List Piece
-shown_of_box scale b left =
+shown_of_box scale b rest =
     title (visible_path b.path) ∷ (counts b.sums ++ share_in scale b.sums ∷ name (visible_path b.own_name)
-    ∷ count (number_in scale.by b.sums) ∷ share_in scale b.sums ∷ shown_of_space scale b left)
+    ∷ count (number_in scale.by b.sums) ∷ share_in scale b.sums ∷ shown_of_space scale b.small rest)
 
 abbrev pub shown_of_boxes : Scale → List BoxModel → List Piece
 shown_of_boxes scale [] = []
 shown_of_boxes scale (b ∷ bs) =
-    shown_of_box scale b (others_in scale.by b bs) ++ shown_of_boxes scale bs
+    shown_of_box scale b (rest_in scale.by b bs) ++ shown_of_boxes scale bs
 
--- a page shows what was counted, the sums over all files, what could not be read, the names and the numbers of its sheet's rows and of the
--- sums over the others, and the drawn directories and files with their sums and shares: each once, in turn, and nothing else
+-- a page shows its title, the chosen files, the sums over all files, what could not be read, the drawn directories and files with their sums
+-- and shares, and the names and the numbers of its sheet's rows and of the sums over the others: each once, in turn, and nothing else
 abbrev pub ShownLaw : Type 0
 ShownLaw =
-    (counted : List ℕ) (scale : Scale) (faults : List FaultLineModel) (s : SheetModel) (boxes : List BoxModel)
-    → filter is_shown (page_pieces counted scale faults s boxes)
-    ≡ shown_of_head counted s.totals
-    ++ (shown_of_faults faults ++ ((flat_map shown_of_line s.rows.lines ++ flat_map shown_of_line s.others.lines)
-    ++ shown_of_boxes scale boxes))
+    (named chosen : List ℕ) (scale : Scale) (faults : List FaultLineModel) (s : SheetModel) (boxes : List BoxModel)
+    → filter is_shown (page_pieces named chosen scale faults s boxes)
+    ≡ shown_of_head named chosen s.totals
+    ++ (shown_of_faults faults ++ (shown_of_boxes scale boxes
+    ++ (flat_map shown_of_line s.rows.lines ++ flat_map shown_of_line s.others.lines)))
 
 -- the text for an extension: a dot and its bytes, as a terminal shows them, or `-` for none
 abbrev pub visible_extension : Option (List ℕ) → List ℕ
@@ -143,16 +152,15 @@ abbrev pub shown_of_others : Scale → Option Sums → List Piece
 shown_of_others scale None = []
 shown_of_others scale (Some s) = name (codes "others") ∷ row_counts scale s
 
--- the page of a report shows what was counted, the sums over all files, each extension of the chart with its sums and its share, the sums
--- over the other extensions, and the boxes
+-- the page of a report shows its title, the chosen files, the sums over all files, the boxes, each extension of the chart with its sums and
+-- its share, and the sums over the other extensions
 abbrev pub ReportLaw : Type 0
 ReportLaw =
-    (counted : List ℕ) (by : Number) (r : Report) (v : ViewModel) (boxes : List BoxModel)
-    → filter is_shown (page_pieces counted (scale_of by r.totals) r.faults.items (sheet_of (chart_options by) [] r v) boxes)
-    ≡ (title (visible_path counted) ∷ name (visible_path counted) ∷ cell_counts r.totals)
-    ++ (shown_of_faults r.faults.items
-    ++ ((flat_map (shown_of_row (scale_of by r.totals)) v.rows ++ shown_of_others (scale_of by r.totals) v.others)
-    ++ shown_of_boxes (scale_of by r.totals) boxes))
+    (named chosen : List ℕ) (by : Number) (r : Report) (v : ViewModel) (boxes : List BoxModel)
+    → filter is_shown (page_pieces named chosen (scale_of by r.totals) r.faults.items (sheet_of (chart_options by) [] r v) boxes)
+    ≡ (shown_of_title named chosen ++ cell_counts r.totals)
+    ++ (shown_of_faults r.faults.items ++ (shown_of_boxes (scale_of by r.totals) boxes
+    ++ (flat_map (shown_of_row (scale_of by r.totals)) v.rows ++ shown_of_others (scale_of by r.totals) v.others)))
 
 -- each row of the chart has the colour of its extension, which is also that of boxes
 abbrev pub ColoursLaw : Type 0
@@ -161,24 +169,71 @@ ColoursLaw =
     → AreShown chart_columns (Some by) rs fs extensions → place < length (chart_view extensions).rows
     → colour_of (chart_view extensions).rows (slice_index_or (chart_view extensions).rows place d).key.tally.extension ≡ line_colour place
 
-abbrev pub without_colour : BoxModel → BoxModel
-without_colour b =
-    record { path = b.path; own_name = b.own_name; depth = b.depth; colour = 0; sums = b.sums; small = no_directories; is_file = b.is_file }
+-- a box without its rows by extension and its small directories
+abbrev pub bare : BoxModel → BoxModel
+bare b = record {
+  path = b.path;
+  own_name = b.own_name;
+  depth = b.depth;
+  colour = b.colour;
+  rest_colour = b.rest_colour;
+  sums = b.sums;
+  kinds = [];
+  small = no_directories;
+  is_file = b.is_file;
+}
 
--- the directories that are drawn are those with at least the least number, each once, whatever the colours and the small directories are
+-- the directories that are drawn are those with at least the least number, each once, whatever the extensions and the small directories are
 abbrev pub DrawnLaw : Type 0
 DrawnLaw =
-    (by : Number) (least : ℕ) (chart kinds tree : List ShownRowModel)
-    → map without_colour (drawn_boxes by least chart kinds tree)
-    ≡ map (λ r. box_of r 0 no_directories) (filter (λ r. nat_le least (number_in by r.sums)) tree)
+    (by : Number) (least : ℕ) (kinds tree : List ShownRowModel)
+    → map bare (drawn_boxes by least kinds tree)
+    ≡ map (λ r. box_of r [] no_directories) (filter (λ r. nat_le least (number_in by r.sums)) tree)
+
+-- a box without its depth and its name
+abbrev pub unplaced : BoxModel → BoxModel
+unplaced b = moved 0 [] b
+
+-- the boxes that are not in a chain, and the last one of each chain
+abbrev pub ends_of_chains : Number → ℕ → List BoxModel → List BoxModel
+ends_of_chains by least [] = []
+ends_of_chains by least (b ∷ bs) = if goes_on by least b bs then ends_of_chains by least bs else b ∷ ends_of_chains by least bs
+
+-- of each chain the last directory has a box, and boxes in no chain stay: but for depths and names they are the same
+abbrev pub ChainsLaw : Type 0
+ChainsLaw =
+    (by : Number) (least : ℕ) (bs : List BoxModel) → map unplaced (joined by least bs) ≡ map unplaced (ends_of_chains by least bs)
+
+-- boxes come depth first: the first is at most this deep, and each other at most one deeper than the box before it
+abbrev pub ComeInDepth : ℕ → List BoxModel → Type 0
+ComeInDepth deepest [] = ⊤
+ComeInDepth deepest (b ∷ bs) = (b.depth ≤ deepest) × ComeInDepth (b.depth + 1) bs
+
+-- boxes that come depth first also do with their chains joined
+abbrev pub JoinedDepthsLaw : Type 0
+JoinedDepthsLaw = (by : Number) (least : ℕ) (bs : List BoxModel) → ComeInDepth 0 bs → ComeInDepth 0 (joined by least bs)
+
+-- the sum of the numbers of the boxes right in a box of this depth, which these boxes follow
+abbrev pub number_inside : Number → ℕ → List BoxModel → ℕ
+number_inside by depth [] = 0
+number_inside by depth (b ∷ bs) =
+    if nat_le b.depth depth then 0
+    else (if b.depth == depth + 1 then number_in by b.sums else 0) + number_inside by depth bs
+
+-- the numbers of the boxes right in a directory's box and that of its rest add up to the directory's number, if those of the boxes are not
+-- more than this
+abbrev pub SumsLaw : Type 0
+SumsLaw =
+    (by : Number) (b : BoxModel) (bs : List BoxModel) → b.is_file ≡ false
+    → number_inside by b.depth bs ≤ number_in by b.sums
+    → number_inside by b.depth bs + rest_in by b bs ≡ number_in by b.sums
 
 -- each file with at least the least number has a box, if its directory has one
 abbrev pub LargeLaw : Type 0
 LargeLaw =
-    (n : ℕ) (by : Number) (least : ℕ) (chart : List ShownRowModel) (fs : List FileLineModel) (directories : List BoxModel)
-    (f : FileLineModel) (b : BoxModel) → Contains fs f → is_large by least f ≡ true → Contains directories b
-    → bytes_eq b.path (directory_of n f.path) ≡ true
-    → Contains (with_files (large_files n by least chart fs) directories) (box_of_file n chart f)
+    (n : ℕ) (by : Number) (least : ℕ) (fs : List FileLineModel) (directories : List BoxModel) (f : FileLineModel) (b : BoxModel)
+    → Contains fs f → is_large by least f ≡ true → Contains directories b → bytes_eq b.path (directory_of n f.path) ≡ true
+    → Contains (with_files (large_files n by least fs) directories) (box_of_file (b.depth + 1) f)
 
 -- a piece without its name
 abbrev pub nameless : Piece → Piece
@@ -192,7 +247,17 @@ nameless (name t) = name []
 
 -- a box without its name
 abbrev pub outline : BoxModel → BoxModel
-outline b = record { path = []; own_name = []; depth = b.depth; colour = b.colour; sums = b.sums; small = b.small; is_file = b.is_file }
+outline b = record {
+  path = [];
+  own_name = [];
+  depth = b.depth;
+  colour = b.colour;
+  rest_colour = b.rest_colour;
+  sums = b.sums;
+  kinds = [];
+  small = b.small;
+  is_file = b.is_file;
+}
 
 -- apart from the names, the boxes depend on depths, colours, numbers and which of them are files alone: no name adds a tag, or takes one
 -- away

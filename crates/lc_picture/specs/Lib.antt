@@ -4,6 +4,8 @@ pub mod Style
 pub mod Colours
 pub mod Small
 pub mod Boxes
+pub mod Kinds
+pub mod Chains
 pub mod Files
 pub mod Places
 pub mod Head

@@ -1,4 +1,4 @@
--- The page of a report: a head with the numbers of all files, a bar chart of its extensions, and the boxes of its directories.
+-- The page of a report: a head with the numbers of all files, the boxes of its directories, and a bar chart of its extensions.
 use Rattle.std.specs.Prelude.{◌≡◌, ℕ, true, false, List, [], ◌∷◌, ◌++◌, codes, unwrap_or, Option, Some, None}
 use Rattle.lc_rows.specs.{RowKeys.ShownRowModel, Sheets.sheet_of, ShownRows.{AreShown, number_in}, TreeRows.AreTreeRows, Views.ViewModel}
 use Rattle.lc_rows.specs.Views.{view_of}
@@ -6,38 +6,46 @@ use Rattle.lc_sheet.specs.Sheets.{SheetModel}
 use Rattle.lc_sheet.specs.declared.table_options.{Columns.Columns, Output.TheVariants.Picture, TableOptions.TableOptions}
 use Rattle.lc_sheet.specs.declared.column.Number.{Number, TheVariants.Lines}
 use Rattle.lc_walk.specs.declared.{report.Report.Report, tally.sums.Sums.Sums}
-use Rattle.lc_picture.specs.{declared.scale.Scale.Scale, Boxes.{BoxModel, boxes_in, drawn_boxes, least_drawn}, Chart.chart}
-use Rattle.lc_picture.specs.{Faults.faults_part, Files.{large_files, with_files}, Head.head_part, Places.AreLargestFirst, Pieces.Piece}
+use Rattle.lc_picture.specs.{declared.scale.Scale.Scale, Boxes.{BoxModel, boxes_in, drawn_boxes, least_of, titled}, Chart.chart}
+use Rattle.lc_picture.specs.{Chains.joined, Faults.faults_part, Files.{large_files, with_files}, Head.head_part, Kinds.all_coloured}
+use Rattle.lc_picture.specs.{Places.AreLargestFirst, Pieces.Piece}
 use Rattle.lc_picture.specs.Pieces.{markup, text_of, word}
 use Rattle.lc_level.specs.{FaultLines.FaultLineModel, Level.FileLineModel}
 
 -- ---- the page of a sheet and of boxes
+
+abbrev pub tree_begin : List ℕ
+tree_begin = codes "<div class=\"tree\">\n"
+
+abbrev pub tree_end : List ℕ
+tree_end = codes "</div>\n<p>Each box is as tall as its share of the "
+
+abbrev pub explanation : List ℕ
+explanation =
+    codes ", in the colour of the extension that has most of them. A hatched box shows the directories and files with less than a thousandth "
+    ++ codes "of all. Fold a box to make room for the rest.</p>\n"
+
+abbrev pub tree_part : Scale → List BoxModel → List Piece
+tree_part scale boxes =
+    markup tree_begin ∷ (boxes_in scale 0 boxes ++ markup tree_end ∷ word scale.by ∷ markup explanation ∷ [])
 
 abbrev pub chart_begin : List ℕ
 chart_begin =
     codes "<h2>By extension</h2>\n<table>\n<tr><th>extension</th><th>files</th><th>lines</th><th>blank</th><th>bytes</th>"
     ++ codes "<th>share</th><td></td></tr>\n"
 
+abbrev pub page_end : List ℕ
+page_end = codes "</table>\n</body>\n</html>\n"
+
 abbrev pub chart_part : SheetModel → List Piece
-chart_part s = markup chart_begin ∷ chart s
+chart_part s = markup chart_begin ∷ (chart s ++ markup page_end ∷ [])
 
-abbrev pub tree_begin : List ℕ
-tree_begin = codes "</table>\n<h2>By directory</h2>\n<p>Each box is as tall as its share of the "
+-- what follows the head of a page: the errors, the boxes and the chart
+abbrev pub body_pieces : Scale → List FaultLineModel → SheetModel → List BoxModel → List Piece
+body_pieces scale faults s boxes = faults_part faults ++ (tree_part scale boxes ++ chart_part s)
 
-abbrev pub boxes_begin : List ℕ
-boxes_begin =
-    codes ", in the colour of the extension that has most of them. Directories with less than a thousandth of all are drawn together, "
-    ++ codes "and others are the files right in a directory with less than that. "
-    ++ codes "Fold a box to make room for the rest.</p>\n<div class=\"tree\">\n"
-
-abbrev pub tree_part : Scale → List BoxModel → List Piece
-tree_part scale boxes =
-    markup tree_begin ∷ word scale.by ∷ markup boxes_begin
-    ∷ (boxes_in scale 0 boxes ++ markup (codes "</div>\n</body>\n</html>\n") ∷ [])
-
-abbrev pub page_pieces : List ℕ → Scale → List FaultLineModel → SheetModel → List BoxModel → List Piece
-page_pieces counted scale faults s boxes =
-    head_part counted scale.by s.totals ++ (faults_part faults ++ (chart_part s ++ tree_part scale boxes))
+abbrev pub page_pieces : List ℕ → List ℕ → Scale → List FaultLineModel → SheetModel → List BoxModel → List Piece
+page_pieces named chosen scale faults s boxes = head_part named chosen scale.by s.totals ++ body_pieces scale faults s boxes
 
 -- the number that a page draws, with its sum over all files
 abbrev pub scale_of : Number → Sums → Scale
@@ -84,25 +92,29 @@ chart_view extensions = view_of (Some chart_rows) extensions []
 abbrev pub tree_depth : ℕ
 tree_depth = 250
 
--- these are the boxes of the directories and the files that are drawn, with their colours, the largest first
-pub record AreBoxesOf (by : Number) (totals : Sums) (files : List FileLineModel) (chart : List ShownRowModel) (boxes : List BoxModel)
+-- these are the boxes of the directories and the files with at least the least number, the largest first, each chain as one, with rows by
+-- directory and extension
+pub record AreBoxesOf (by : Number) (least : ℕ) (files : List FileLineModel) (kinds : List ShownRowModel) (boxes : List BoxModel)
     : Type 0 where
   pub tree : List ShownRowModel
   pub are_tree : AreTreeRows tree_depth tree_columns files tree
-  pub kinds : List ShownRowModel
-  pub are_kinds : AreTreeRows tree_depth kind_columns files kinds
   pub are :
-      AreLargestFirst by
-      (with_files (large_files tree_depth by (least_drawn (number_in by totals)) chart files)
-      (drawn_boxes by (least_drawn (number_in by totals)) chart kinds tree)) boxes
+      AreLargestFirst by (with_files (large_files tree_depth by least files) (joined by least (drawn_boxes by least kinds tree))) boxes
 
--- a text is the page of a report of what was counted, where this number is drawn. It is made from the sheet of the report's extensions,
--- sorted, and from the boxes of its files and their directories
-pub record IsPageOf (counted : List ℕ) (by : Number) (r : Report) (text : List ℕ) : Type 0 where
+-- how many parts a picture divides its total into: a directory or a file with one of them has a box
+abbrev pub picture_parts : ℕ
+picture_parts = 1000
+
+-- a text is the page of a report with this title and these chosen files, where this number is drawn. It is made from the sheet of the
+-- report's extensions, sorted, and from the boxes of its files and their directories
+pub record IsPageOf (named chosen : List ℕ) (by : Number) (r : Report) (text : List ℕ) : Type 0 where
   pub extensions : List ShownRowModel
   pub are_extensions : AreShown chart_columns (Some by) r.rows.items r.files.items extensions
-  pub boxes : List BoxModel
-  pub are_boxes : AreBoxesOf by r.totals r.files.items (chart_view extensions).rows boxes
+  pub kinds : List ShownRowModel
+  pub are_kinds : AreTreeRows tree_depth kind_columns r.files.items kinds
+  pub drawn : List BoxModel
+  pub are_drawn : AreBoxesOf by (least_of picture_parts (number_in by r.totals)) r.files.items kinds drawn
   pub is :
-      text ≡ text_of (page_pieces counted (scale_of by r.totals) r.faults.items (sheet_of (chart_options by) [] r (chart_view extensions))
-      boxes)
+      text
+      ≡ text_of (page_pieces named chosen (scale_of by r.totals) r.faults.items (sheet_of (chart_options by) [] r (chart_view extensions))
+      (titled named (all_coloured (chart_view extensions).rows by drawn)))

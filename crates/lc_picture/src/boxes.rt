@@ -2,16 +2,15 @@
 
 ghost use Rattle.std.specs.Prelude.{◌≡◌, ◌+◌, ◌-◌, ◌==◌, if◌then◌else◌, ◌++◌, IfOk, OnOk, min};
 ghost use Rattle.lc_rows.specs.ShownRows.{number_in};
-ghost use Rattle.lc_picture.specs.Boxes.{boxes_in, closings, label, left_beside, next_box, number_drawn, opening, others_in, tag};
-ghost use Rattle.lc_picture.specs.Boxes.{tag_end, title_of};
+ghost use Rattle.lc_picture.specs.Boxes.{boxes_in, closings, label, left_beside, next_box, opening, rest_in, tag, tag_end};
+ghost use Rattle.lc_picture.specs.Boxes.{title_of};
 ghost use Rattle.lc_picture.specs.Pieces.{piece_text, text_of};
 
 use crate::drawn_box::DrawnBox;
 use crate::escaping::push_path;
-use crate::percents::push_percent;
 use crate::scale::Scale;
-use crate::space::push_space;
-use crate::sums::{number_word, push_count, push_number, push_share, push_sums};
+use crate::space::{push_drawn_number, push_space};
+use crate::sums::{push_number, push_share, push_sums};
 use lc_rows::number_in;
 use lc_sheet::Number;
 use lc_walk::Sums;
@@ -46,16 +45,19 @@ fn left_beside<'a>(by: Number, depth: usize, number: u128, after: &[DrawnBox<'a>
     left
 }
 
-/// Returns the number `by`, such as lines, of the files directly in a directory that have no boxes. This is what the directory has besides
-/// its small directories and the boxes directly in its own box. `after` has the boxes that follow the directory's box.
-fn others_in<'a>(by: Number, drawn: &DrawnBox<'a>, after: &[DrawnBox<'a>]) -> u128
-    ensures { result ≡ others_in by drawn.now after.now }
+/// Returns the number `by`, such as lines, of the rest of a directory: of its small directories, and of its files that have no boxes.
+/// This is what the directory has besides the boxes directly in its own box. `after` has the boxes that follow the directory's box. A file
+/// has no rest.
+pub(crate) fn rest_in<'a>(by: Number, drawn: &DrawnBox<'a>, after: &[DrawnBox<'a>]) -> u128
+    ensures { result ≡ rest_in by drawn.now after.now }
 {
-    let number = number_in(by, drawn.sums).saturating_sub(drawn.small.number);
-    left_beside(by, drawn.depth, number, after)
+    if drawn.is_file {
+        return 0;
+    }
+    left_beside(by, drawn.depth, number_in(by, drawn.sums), after)
 }
 
-/// Returns the end of the opening tag of a box, which is open or folded at first, and the beginning of its title.
+/// Returns the end of a box's opening tag, with `open` if the page shows the box open at first, and the beginning of the title.
 fn tag_end(is_open: bool) -> &'static [u8]
     ensures { result.now ≡ piece_text (tag_end is_open) }
 {
@@ -99,23 +101,6 @@ fn push_title(
     push_share(text, scale, number_in(scale.by, sums))
 }
 
-/// Appends the number that a box shows, with its share of the total, such as `lines 7 (38.9%)`, and the tags after it.
-fn push_drawn_number(
-    text: &mut Vec<u8>,
-    scale: Scale,
-    n: u128,
-    made: &mut String,
-) -> Result<(), AllocError>
-    ensures { OnOk result (text.new.items ≡ text.old.items ++ text_of (number_drawn scale n)) }
-{
-    text.extend_from_slice(number_word(scale.by))?;
-    text.extend_from_slice(b" ")?;
-    push_count(text, n, made)?;
-    text.extend_from_slice(b" (")?;
-    push_percent(text, n, scale.whole)?;
-    text.extend_from_slice(b")</span></summary><div>")
-}
-
 fn push_label(
     text: &mut Vec<u8>,
     scale: Scale,
@@ -128,18 +113,20 @@ fn push_label(
     text.extend_from_slice(b"\"><b>")?;
     push_path(text, own_name, made)?;
     text.extend_from_slice(b"</b> <span>")?;
-    push_drawn_number(text, scale, n, made)
+    push_drawn_number(text, scale, n, made)?;
+    text.extend_from_slice(b"</summary><div>")?;
+    Ok(())
 }
 
-/// Appends the beginning of a box: its tag, its title, its label, and its parts for small directories and other files.
+/// Appends the beginning of a box: its tag, its title, its label, and the box of its rest.
 fn push_opening(
     text: &mut Vec<u8>,
     scale: Scale,
     drawn: &DrawnBox<'_>,
-    left: u128,
+    rest: u128,
     made: &mut String,
 ) -> Result<(), AllocError>
-    ensures { OnOk result (text.new.items ≡ text.old.items ++ text_of (opening scale drawn.now left)) }
+    ensures { OnOk result (text.new.items ≡ text.old.items ++ text_of (opening scale drawn.now rest)) }
 {
     push_tag(text, scale.by, drawn.depth, drawn.colour, drawn.sums)?;
     push_title(text, scale, drawn.path, drawn.sums, made)?;
@@ -150,7 +137,7 @@ fn push_opening(
         number_in(scale.by, drawn.sums),
         made,
     )?;
-    push_space(text, scale, drawn.is_file, drawn.small, left, made)?;
+    push_space(text, scale, drawn.rest_colour, drawn.small, rest, made)?;
     Ok(())
 }
 
@@ -181,8 +168,8 @@ fn push_box<'a>(
 {
     let next = within.min(drawn.depth).checked_add(1).ok_or(AllocError)?;
     push_closings(text, within.saturating_sub(drawn.depth))?;
-    let left = others_in(scale.by, drawn, after);
-    push_opening(text, scale, drawn, left, made)?;
+    let rest = rest_in(scale.by, drawn, after);
+    push_opening(text, scale, drawn, rest, made)?;
     Ok(next)
 }
 

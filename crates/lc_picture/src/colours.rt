@@ -1,10 +1,10 @@
-//! The colours of extensions and of directories. Here a colour is a number, which the style of the page turns into an actual colour.
+//! The colours of extensions, and the rows of directories that decide theirs. Here a colour is a number, which the style of the page turns
+//! into an actual colour.
 
 ghost use Rattle.std.specs.Prelude.{◌≡◌, drop, option_map};
-ghost use Rattle.lc_picture.specs.Colours.{colour_of, main_colour, path_of, place_of, rows_from, same_extension, shared_colour};
+ghost use Rattle.lc_picture.specs.Colours.{colour_of, first_rows_of, path_of, place_of, rows_from, same_extension};
 
-use lc_rows::{ShownRow, number_in};
-use lc_sheet::Number;
+use lc_rows::ShownRow;
 
 /// The colour of all extensions that are not among the first eight of the chart.
 pub(crate) const SHARED_COLOUR: usize = 8;
@@ -16,7 +16,7 @@ pub(crate) fn path_of<'a>(row: &ShownRow<'a>) -> &'a [u8]
     row.key.directory.unwrap_or(&[])
 }
 
-fn same_extension(a: Option<&[u8]>, b: Option<&[u8]>) -> bool
+pub(crate) fn same_extension(a: Option<&[u8]>, b: Option<&[u8]>) -> bool
     ensures { result ≡ same_extension (option_map (λ s. s.now) a.entry) (option_map (λ s. s.now) b.entry) }
 {
     match (a, b) {
@@ -57,27 +57,17 @@ pub(crate) fn next_place(directory: &[u8], kinds: &[ShownRow<'_>], start: usize)
     kinds.len()
 }
 
-/// Returns the colour of the extension with the largest number, such as lines, in a directory. The rows of this directory must come first
-/// in `kinds`.
-pub(crate) fn main_colour(
-    chart: &[ShownRow<'_>],
-    by: Number,
+/// Returns the first rows of `kinds`, as many as are of this directory.
+pub(crate) fn first_rows_of<'a, 'b>(
     directory: &[u8],
-    kinds: &[ShownRow<'_>],
-) -> usize
-    ensures { result ≡ main_colour chart.now by directory.now 0 shared_colour kinds.now }
+    kinds: &'b [ShownRow<'a>],
+) -> &'b [ShownRow<'a>]
+    ensures { result.now ≡ first_rows_of directory.now kinds.entry.now }
 {
-    let mut number = 0;
-    let mut colour = SHARED_COLOUR;
-    for kind in kinds {
-        if directory != path_of(kind) {
-            return colour;
+    for place in 0..kinds.len() {
+        if directory != path_of(&kinds[place]) {
+            return &kinds[..place];
         }
-        let own = number_in(by, kind.sums);
-        if number < own {
-            colour = colour_of(chart, kind.key.extension);
-        }
-        number = own.max(number);
     }
-    colour
+    kinds
 }

@@ -4,13 +4,13 @@ ghost use Rattle.std.specs.Prelude.{◌≡◌, ◌++◌, IfOk, OnOk};
 ghost use Rattle.lc_walk.specs.Sums.{one_file};
 ghost use Rattle.lc_picture.specs.Files.{box_of_file, file_box, files_in, large_files, with_files};
 
-use crate::colours::colour_of;
+use crate::colours::SHARED_COLOUR;
 use crate::drawn_box::DrawnBox;
 use crate::small_directories::SmallDirectories;
 use lc_census::Count;
-use lc_rows::{ShownRow, directory_at, level_of, name_of, number_of};
+use lc_rows::{directory_at, name_of, number_of};
 use lc_sheet::Number;
-use lc_walk::{FileLine, Sums, extension};
+use lc_walk::{FileLine, Sums};
 use std::alloc::{AllocError, Global};
 use std::marker::Model;
 
@@ -42,40 +42,29 @@ fn sums_of(count: Count) -> Sums
     }
 }
 
-/// Makes the box of a file, in the colour of its extension.
-fn box_of_file<'a>(
-    depth: u32,
-    chart: &[ShownRow<'_>],
-    file: &'a FileLine,
-) -> Result<DrawnBox<'a>, AllocError>
-    ensures { IfOk result (λ made. made ≡ box_of_file depth chart.now file.entry.now) }
+fn box_of_file(file: &FileLine) -> DrawnBox<'_>
+    ensures { result ≡ box_of_file 0 file.entry.now }
 {
-    let name = name_of(&file.path);
-    let above = level_of(directory_at(depth, &file.path));
-    let depth = above.checked_add(1).ok_or(AllocError)?;
-    Ok(DrawnBox {
+    DrawnBox {
         path: &file.path,
-        own_name: name,
-        depth,
-        colour: colour_of(chart, extension(name)),
+        own_name: name_of(&file.path),
+        depth: 0,
+        colour: SHARED_COLOUR,
+        rest_colour: SHARED_COLOUR,
         sums: sums_of(file.count),
+        kinds: &[],
         small: SmallDirectories::none(),
         is_file: true,
-    })
+    }
 }
 
-fn file_box<'a>(
-    depth: u32,
-    chart: &[ShownRow<'_>],
-    file: &'a FileLine,
-) -> Result<FileBox<'a>, AllocError>
-    ensures { IfOk result (λ made. made ≡ file_box depth chart.now file.entry.now) }
+fn file_box(depth: u32, file: &FileLine) -> FileBox<'_>
+    ensures { result ≡ file_box depth file.entry.now }
 {
-    let drawn = box_of_file(depth, chart, file)?;
-    Ok(FileBox {
+    FileBox {
         parent: directory_at(depth, &file.path),
-        drawn,
-    })
+        drawn: box_of_file(file),
+    }
 }
 
 /// Returns the boxes of the files whose number `by`, such as lines, is at least `least`. The paths of their directories are cut after
@@ -85,32 +74,31 @@ pub(crate) fn large_files<'a>(
     depth: u32,
     by: Number,
     least: u128,
-    chart: &[ShownRow<'_>],
     files: &'a [FileLine],
 ) -> Result<Vec<FileBox<'a>>, AllocError>
-    ensures { IfOk result (λ boxes. boxes.items ≡ large_files depth by least chart.now files.entry.now) }
+    ensures { IfOk result (λ boxes. boxes.items ≡ large_files depth by least files.entry.now) }
 {
     let mut boxes = Vec::new(alloc);
     for file in files {
         if u128::from(number_of(by, file)) >= least {
-            let made = file_box(depth, chart, file)?;
-            boxes.push(made)?;
+            boxes.push(file_box(depth, file))?;
         }
     }
     Ok(boxes)
 }
 
-/// Appends the boxes of the files that are directly in a directory.
+/// Appends the boxes of the files that are directly in a directory. `depth` boxes are around them.
 fn push_files<'a>(
     boxes: &mut Vec<DrawnBox<'a>>,
     files: &[FileBox<'a>],
     directory: &[u8],
+    depth: usize,
 ) -> Result<(), AllocError>
-    ensures { OnOk result (boxes.new.items ≡ boxes.old.items ++ files_in directory.now files.now) }
+    ensures { OnOk result (boxes.new.items ≡ boxes.old.items ++ files_in directory.now depth files.now) }
 {
     for file in files {
         if directory == file.parent {
-            boxes.push(file.drawn.copy())?;
+            boxes.push(file.drawn.moved(depth, file.drawn.own_name))?;
         }
     }
     Ok(())
@@ -128,8 +116,9 @@ pub(crate) fn with_files<'a>(
 {
     let mut boxes = Vec::new(alloc);
     for directory in directories {
+        let depth = directory.depth.checked_add(1).ok_or(AllocError)?;
         boxes.push(directory.copy())?;
-        push_files(&mut boxes, files, directory.path)?;
+        push_files(&mut boxes, files, directory.path, depth)?;
     }
     Ok(boxes)
 }

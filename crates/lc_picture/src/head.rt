@@ -1,17 +1,17 @@
-//! The head of a page: what was counted, which number is drawn, and the sums over all files.
+//! The head of a page: its title, which number of which files is drawn, and the sums over all files.
 
-ghost use Rattle.std.specs.Prelude.{◌≡◌, ◌++◌, OnOk};
+ghost use Rattle.std.specs.Prelude.{◌≡◌, ◌++◌, IfOk, OnOk};
 ghost use Rattle.lc_rows.specs.SheetLaws.{first_number, is_number, number_at, number_of, same_number};
 ghost use Rattle.lc_sheet.specs.Sheets.{line_of};
 ghost use Rattle.lc_sheet.specs.Values.{value_model};
-ghost use Rattle.lc_picture.specs.Head.{figure, figures, figures_of, head_part, heading, page_top};
+ghost use Rattle.lc_picture.specs.Head.{chosen_files, figure, figures, figures_of, head_part, heading, page_top, what_is_drawn};
 ghost use Rattle.lc_picture.specs.Pieces.{text_of};
 
 use crate::escaping::push_path;
 use crate::style::{body_begin, page_begin, style, style_begin};
 use crate::sums::{number_word, push_count};
-use lc_sheet::{Column, Form, Lines, Number, Section, Value};
-use std::alloc::AllocError;
+use lc_sheet::{Column, Form, Lines, Number, Section, Sheet, Value};
+use std::alloc::{AllocError, Global};
 
 fn same_number(a: Number, b: Number) -> bool
     ensures { result ≡ same_number a b }
@@ -69,38 +69,68 @@ fn first_number<L: Lines>(number: Number, section: &Section<'_, L>) -> u128
     }
 }
 
-/// Appends the beginning of a page: the title in a browser's tab, and the style.
-fn push_page_top(
+/// Appends ` of files ` and which files options choose, or ` by directory` if no option chooses files.
+fn push_chosen_files(text: &mut Vec<u8>, chosen: &[u8], made: &mut String) -> Result<(), AllocError>
+    ensures { OnOk result (text.new.items ≡ text.old.items ++ text_of (chosen_files chosen.now)) }
+{
+    if chosen.is_empty() {
+        text.extend_from_slice(b" by directory")?;
+        return Ok(());
+    }
+    text.extend_from_slice(b" of files ")?;
+    push_path(text, chosen, made)?;
+    Ok(())
+}
+
+/// Appends which number of which files is drawn, such as `lines of files where ext=.c`.
+fn push_what_is_drawn(
     text: &mut Vec<u8>,
-    counted: &[u8],
+    chosen: &[u8],
     by: Number,
     made: &mut String,
 ) -> Result<(), AllocError>
-    ensures { OnOk result (text.new.items ≡ text.old.items ++ text_of (page_top counted.now by)) }
+    ensures { OnOk result (text.new.items ≡ text.old.items ++ text_of (what_is_drawn chosen.now by)) }
+{
+    text.extend_from_slice(number_word(by))?;
+    push_chosen_files(text, chosen, made)?;
+    Ok(())
+}
+
+/// Appends the beginning of a page: the title in a browser's tab, and the style.
+fn push_page_top(
+    text: &mut Vec<u8>,
+    title: &[u8],
+    chosen: &[u8],
+    by: Number,
+    made: &mut String,
+) -> Result<(), AllocError>
+    ensures { OnOk result (text.new.items ≡ text.old.items ++ text_of (page_top title.now chosen.now by)) }
 {
     text.extend_from_slice(page_begin())?;
-    push_path(text, counted, made)?;
+    push_path(text, title, made)?;
     text.extend_from_slice(b": ")?;
-    text.extend_from_slice(number_word(by))?;
+    push_what_is_drawn(text, chosen, by, made)?;
     text.extend_from_slice(style_begin())?;
     text.extend_from_slice(style())?;
     Ok(())
 }
 
-/// Appends the heading of a page: what was counted, and which number is drawn, such as `lines by directory`.
+/// Appends the heading of a page: its title, and what is drawn.
 fn push_heading(
     text: &mut Vec<u8>,
-    counted: &[u8],
+    title: &[u8],
+    chosen: &[u8],
     by: Number,
     made: &mut String,
 ) -> Result<(), AllocError>
-    ensures { OnOk result (text.new.items ≡ text.old.items ++ text_of (heading counted.now by)) }
+    ensures { OnOk result (text.new.items ≡ text.old.items ++ text_of (heading title.now chosen.now by)) }
 {
     text.extend_from_slice(body_begin())?;
-    push_path(text, counted, made)?;
+    push_path(text, title, made)?;
     text.extend_from_slice(b"</h1>\n<p class=\"by\">")?;
-    text.extend_from_slice(number_word(by))?;
-    text.extend_from_slice(b" by directory</p>\n<dl>\n")
+    push_what_is_drawn(text, chosen, by, made)?;
+    text.extend_from_slice(b"</p>\n<dl>\n")?;
+    Ok(())
 }
 
 /// Appends one of the sums over all files, with the words that name it.
@@ -155,19 +185,21 @@ fn push_figures_of<L: Lines>(
     Ok(())
 }
 
-/// Appends the head of a page. Its sums over all files are the numbers in the first line of a sheet's totals.
-pub(crate) fn push_head_part<L: Lines>(
-    text: &mut Vec<u8>,
-    counted: &[u8],
+/// Returns the head of a page. Its sums over all files are the numbers in the first line of a sheet's totals.
+pub(crate) fn head_of<R: Lines, T: Lines, F: Lines, S: Lines, E: Lines>(
+    alloc: Global,
+    title: &[u8],
+    chosen: &[u8],
     by: Number,
-    totals: &Section<'_, L>,
-    made: &mut String,
-) -> Result<(), AllocError>
-    ensures { OnOk result (text.new.items ≡ text.old.items ++ text_of (head_part counted.now by totals.now)) }
+    sheet: &Sheet<'_, R, T, F, S, E>,
+) -> Result<Vec<u8>, AllocError>
+    ensures { IfOk result (λ text. text.items ≡ text_of (head_part title.now chosen.now by sheet.now.totals)) }
 {
-    push_page_top(text, counted, by, made)?;
-    push_heading(text, counted, by, made)?;
-    push_figures_of(text, totals, made)?;
+    let mut text = Vec::new(alloc);
+    let mut made = String::new(alloc);
+    push_page_top(&mut text, title, chosen, by, &mut made)?;
+    push_heading(&mut text, title, chosen, by, &mut made)?;
+    push_figures_of(&mut text, &sheet.totals, &mut made)?;
     text.extend_from_slice(b"</dl>\n")?;
-    Ok(())
+    Ok(text)
 }

@@ -2,8 +2,8 @@
 
 ghost use Rattle.lc_picture.specs.Inside.{InsideLaw};
 ghost use Rattle.lc_picture.specs.Places.{FallingLaw};
-ghost use Rattle.lc_picture.specs.Laws.{ColoursLaw, DrawnLaw, LargeLaw, NestingLaw, OutlineLaw, ReportLaw, ShownLaw, TagLaw};
-ghost use Rattle.lc_picture.specs.Laws.{UnescapedLaw};
+ghost use Rattle.lc_picture.specs.Laws.{ChainsLaw, ColoursLaw, DrawnLaw, JoinedDepthsLaw, LargeLaw, NestingLaw, OutlineLaw, ReportLaw};
+ghost use Rattle.lc_picture.specs.Laws.{ShownLaw, SumsLaw, TagLaw, UnescapedLaw};
 
 /// The law that a name in the page neither begins nor ends a tag or an attribute. If the character references in the name are decoded, the
 /// result is the name as terminals show it.
@@ -12,13 +12,12 @@ pub fn names_are_never_markup()
     ensures reads_back { UnescapedLaw }
 {}
 
-/// The law that a page shows the following names and numbers, and no others but numbers in tags. At the top are what was counted, the sums
-/// over all files, the number of errors, the first errors, and how many errors are not listed. Next come the rows of the chart, and the
-/// sums over the other rows, with their shares. Last comes each drawn directory and file once, with its sums and its share. The box of a
-/// directory also shows the number of its small child directories, which have no boxes of their own, and the sum and the share of a number,
-/// such as lines, over these directories. It also shows what is then left of the directory's number beside all boxes in it. On the page of
-/// a report, each row of the chart is an extension. Of the directories of at most 250 names, exactly those are drawn whose number, such as
-/// lines, is large enough.
+/// The law that a page shows the following names and numbers, and no others but numbers in tags. At the top are the title, the chosen
+/// files, the sums over all files, the number of errors, the first errors, and how many errors are not listed. Next comes each drawn
+/// directory and file once, with its sums and its share. The box of a directory also shows the rest, which is what has no box of its own:
+/// its number, such as lines, its share, and how many small directories are in it. Last come the rows of the chart, and the sums over the
+/// other rows, with their shares. On the page of a report, each row of the chart is an extension. Of the directories of at most 250 names,
+/// exactly those are drawn, alone or in a chain, whose number, such as lines, is large enough.
 pub fn a_page_shows_each_directory_once()
     ensures shown { ShownLaw }
     ensures report { ReportLaw }
@@ -28,6 +27,19 @@ pub fn a_page_shows_each_directory_once()
 /// The law that each file whose number, such as lines, is large enough has a box, if the directory that holds the file has a box.
 pub fn large_files_have_boxes()
     ensures { LargeLaw }
+{}
+
+/// The law that a chain of directories has the box of its last directory, with the numbers of this directory. All other boxes stay as they
+/// are, but for their depths and names. If the boxes come depth first, they still do with their chains joined.
+pub fn a_chain_is_its_last_directory()
+    ensures ends { ChainsLaw }
+    ensures depths { JoinedDepthsLaw }
+{}
+
+/// The law that the numbers of the boxes directly in a directory's box, and that of its rest, add up to the number of the directory, unless
+/// the boxes have more than the directory.
+pub fn a_directory_is_its_boxes_and_its_rest()
+    ensures { SumsLaw }
 {}
 
 /// The law that each row of the chart has the colour in which boxes show its extension.

@@ -7,9 +7,10 @@
 //! - `boxes`, `drawn_box`: the boxes of directories and files, each inside the box of the directory above it
 //! - `directory_box`, `file_box`: which directories and which files have boxes
 //! - `small_directories`: the directories that are too small for boxes of their own
-//! - `space`: what the box of a directory shows for the child directories and the files that have no boxes of their own
+//! - `space`: the box of the rest of a directory: of the child directories and the files that have no boxes of their own
+//! - `chains`: directories that are one box with the only box in them
 //! - `largest_first`, `places`: the order of boxes
-//! - `colours`: the colours of extensions and of directories
+//! - `colours`, `kinds`: the colours of extensions, of boxes and of their rests
 //! - `scale`: which number a picture draws, such as lines, and the sum of that number over all files
 //! - `sums`, `percents`: sums as text, such as `lines 7, files 1`, and shares as text
 //! - `escaping`: texts, names and paths, escaped for HTML
@@ -19,6 +20,7 @@
 
 mod boxes;
 mod cells;
+mod chains;
 mod chart;
 mod colours;
 mod directory_box;
@@ -27,6 +29,7 @@ mod escaping;
 mod faults;
 mod file_box;
 mod head;
+mod kinds;
 mod largest_first;
 mod laws;
 mod percents;
@@ -39,8 +42,9 @@ mod style;
 mod sums;
 
 pub use laws::{
-    a_box_opens_inside_that_of_its_parent, a_page_shows_each_directory_once, boxes_are_nested,
-    large_files_have_boxes, larger_boxes_come_first, names_are_never_markup, names_change_no_tag,
-    rows_have_the_colours_of_their_extensions,
+    a_box_opens_inside_that_of_its_parent, a_chain_is_its_last_directory,
+    a_directory_is_its_boxes_and_its_rest, a_page_shows_each_directory_once, boxes_are_nested,
+    large_files_have_boxes, larger_boxes_come_first,
+    names_are_never_markup, names_change_no_tag, rows_have_the_colours_of_their_extensions,
 };
 pub use report_page::page;

@@ -1,21 +1,25 @@
-//! The HTML page of a report: its head, its errors, its bar chart, and its boxes.
+//! The HTML page of a report: its head, its errors, its boxes, and its bar chart.
 
 ghost use Rattle.std.specs.Prelude.{◌≡◌, ◌++◌, IfOk, OnOk, Some};
 ghost use Rattle.lc_rows.specs.Views.{first_of};
+ghost use Rattle.lc_picture.specs.Boxes.{titled};
+ghost use Rattle.lc_picture.specs.Kinds.{all_coloured};
 ghost use Rattle.lc_picture.specs.Page.{AreBoxesOf, IsPageOf, chart_options, chart_part, chart_rows, drawn_number};
-ghost use Rattle.lc_picture.specs.Page.{page_pieces, scale_of, tree_part};
+ghost use Rattle.lc_picture.specs.Page.{body_pieces, scale_of, tree_part};
 ghost use Rattle.lc_picture.specs.Pieces.{text_of};
 
 use crate::boxes::push_boxes;
+use crate::chains::joined;
 use crate::chart::push_chart;
-use crate::directory_box::{drawn_boxes, least_drawn};
+use crate::directory_box::{drawn_boxes, least_of};
 use crate::drawn_box::DrawnBox;
 use crate::faults::push_faults;
 use crate::file_box::{large_files, with_files};
-use crate::head::push_head_part;
+use crate::head::head_of;
+use crate::kinds::all_coloured;
 use crate::largest_first::largest_first;
 use crate::scale::Scale;
-use crate::style::{boxes_begin, chart_begin, tree_begin};
+use crate::style::{chart_begin, explanation, page_end, tree_begin, tree_end};
 use crate::sums::number_word;
 use lc_rows::{Shown, ShownRow, number_in, shown_rows, tree_rows};
 use lc_sheet::{Columns, Lines, Number, Output, Section, Sheet, TableOptions};
@@ -35,6 +39,9 @@ const CHART_ROWS: u32 = 20;
 /// elements, and a box in a box takes two.
 const TREE_DEPTH: u32 = 250;
 
+/// How many parts a picture divides its total into. A directory or a file with at least one of them has a box.
+const PICTURE_PARTS: u128 = 1_000;
+
 /// The columns of the rows from which boxes of directories are made: the directory alone.
 const TREE_COLUMNS: Columns = Columns {
     dir: Some(1),
@@ -47,18 +54,6 @@ const KIND_COLUMNS: Columns = Columns {
     ..TREE_COLUMNS
 };
 
-fn push_chart_part<R: Lines, T: Lines, F: Lines, S: Lines, E: Lines>(
-    text: &mut Vec<u8>,
-    sheet: &Sheet<'_, R, T, F, S, E>,
-    made: &mut String,
-) -> Result<(), AllocError>
-    ensures { OnOk result (text.new.items ≡ text.old.items ++ text_of (chart_part sheet.now)) }
-{
-    text.extend_from_slice(chart_begin())?;
-    push_chart(text, sheet, made)?;
-    Ok(())
-}
-
 fn push_tree_part(
     text: &mut Vec<u8>,
     scale: Scale,
@@ -68,30 +63,41 @@ fn push_tree_part(
     ensures { OnOk result (text.new.items ≡ text.old.items ++ text_of (tree_part scale boxes.now)) }
 {
     text.extend_from_slice(tree_begin())?;
-    text.extend_from_slice(number_word(scale.by))?;
-    text.extend_from_slice(boxes_begin())?;
     push_boxes(text, scale, boxes, made)?;
-    text.extend_from_slice(b"</div>\n</body>\n</html>\n")?;
+    text.extend_from_slice(tree_end())?;
+    text.extend_from_slice(number_word(scale.by))?;
+    text.extend_from_slice(explanation())?;
     Ok(())
 }
 
-fn page_text<R: Lines, T: Lines, F: Lines, S: Lines, E: Lines>(
-    alloc: Global,
-    counted: &[u8],
+fn push_chart_part<R: Lines, T: Lines, F: Lines, S: Lines, E: Lines>(
+    text: &mut Vec<u8>,
+    sheet: &Sheet<'_, R, T, F, S, E>,
+    made: &mut String,
+) -> Result<(), AllocError>
+    ensures { OnOk result (text.new.items ≡ text.old.items ++ text_of (chart_part sheet.now)) }
+{
+    text.extend_from_slice(chart_begin())?;
+    push_chart(text, sheet, made)?;
+    text.extend_from_slice(page_end())?;
+    Ok(())
+}
+
+/// Appends what follows the head of a page: the errors, the boxes and the chart.
+fn push_body<R: Lines, T: Lines, F: Lines, S: Lines, E: Lines>(
+    text: &mut Vec<u8>,
     scale: Scale,
     faults: &[FaultLine],
     sheet: &Sheet<'_, R, T, F, S, E>,
     boxes: &[DrawnBox<'_>],
-) -> Result<Vec<u8>, AllocError>
-    ensures { IfOk result (λ text. text.items ≡ text_of (page_pieces counted.now scale faults.now sheet.now boxes.now)) }
+    made: &mut String,
+) -> Result<(), AllocError>
+    ensures { OnOk result (text.new.items ≡ text.old.items ++ text_of (body_pieces scale faults.now sheet.now boxes.now)) }
 {
-    let mut text = Vec::new(alloc);
-    let mut made = String::new(alloc);
-    push_head_part(&mut text, counted, scale.by, &sheet.totals, &mut made)?;
-    push_faults(&mut text, faults, &mut made)?;
-    push_chart_part(&mut text, sheet, &mut made)?;
-    push_tree_part(&mut text, scale, boxes, &mut made)?;
-    Ok(text)
+    push_faults(text, faults, made)?;
+    push_tree_part(text, scale, boxes, made)?;
+    push_chart_part(text, sheet, made)?;
+    Ok(())
 }
 
 /// Returns the number that a page draws, such as lines, with its sum over all files.
@@ -125,68 +131,91 @@ fn first_rows<'a, 'b>(rows: &'b [ShownRow<'a>]) -> &'b [ShownRow<'a>]
     &rows[..rows.len().min(CHART_ROWS as usize)]
 }
 
-/// Returns the boxes of the directories and files that are large enough, the largest first, from the list of all files.
-fn boxes_of<'a>(
+/// Returns the boxes of the directories and files whose number `by`, such as lines, is at least `least`, the largest first, from the list of
+/// all files. Each chain of directories is one box. `kinds` are the rows by directory and extension, or none if the boxes get no colours.
+pub(crate) fn boxes_of<'a>(
     alloc: Global,
     by: Number,
-    totals: Sums,
+    least: u128,
     files: &'a [FileLine],
-    chart: &[ShownRow<'_>],
+    kinds: &'a [ShownRow<'a>],
 ) -> Result<Vec<DrawnBox<'a>>, AllocError>
-    ensures { IfOk result (λ boxes. AreBoxesOf by totals files.entry.now chart.now boxes.items) }
+    ensures { IfOk result (λ boxes. AreBoxesOf by least files.entry.now kinds.entry.now boxes.items) }
 {
     let tree = tree_rows(alloc, files, TREE_COLUMNS, TREE_DEPTH)?;
-    let kinds = tree_rows(alloc, files, KIND_COLUMNS, TREE_DEPTH)?;
-    let least = least_drawn(number_in(by, totals));
-    let drawn = drawn_boxes(alloc, by, least, &tree, chart, &kinds)?;
-    let large = large_files(alloc, TREE_DEPTH, by, least, chart, files)?;
-    let all = with_files(alloc, &large, &drawn)?;
+    let drawn = drawn_boxes(alloc, by, least, &tree, kinds)?;
+    let chains = joined(alloc, by, least, &drawn)?;
+    let large = large_files(alloc, TREE_DEPTH, by, least, files)?;
+    let all = with_files(alloc, &large, &chains)?;
     let boxes = largest_first(alloc, by, &all)?;
+    Ok(boxes)
+}
+
+/// Returns the boxes of a page: in their colours, and with the title of the page as the name of the first.
+fn page_boxes<'a>(
+    alloc: Global,
+    title: &'a [u8],
+    chart: &[ShownRow<'_>],
+    by: Number,
+    drawn: &[DrawnBox<'a>],
+) -> Result<Vec<DrawnBox<'a>>, AllocError>
+    ensures { IfOk result (λ boxes. boxes.items ≡ titled title.entry.now (all_coloured chart.now by drawn.now)) }
+{
+    let mut boxes = all_coloured(alloc, chart, by, drawn)?;
+    if let Some(top) = boxes.first_mut() {
+        top.own_name = title;
+    }
     Ok(boxes)
 }
 
 fn page_by(
     alloc: Global,
-    counted: &[u8],
+    title: &[u8],
+    chosen: &[u8],
     report: &Report,
     by: Number,
 ) -> Result<Vec<u8>, AllocError>
-    ensures { IfOk result (λ text. IsPageOf counted.now by report.now text.items) }
+    ensures { IfOk result (λ text. IsPageOf title.now chosen.now by report.now text.items) }
 {
     let extensions = shown_rows(alloc, &report.rows, &report.files, CHART_COLUMNS, Some(by))?;
     let chart = first_rows(&extensions);
-    let boxes = boxes_of(alloc, by, report.totals, &report.files, chart)?;
+    let mut kinds = tree_rows(alloc, &report.files, KIND_COLUMNS, TREE_DEPTH)?;
+    // Otherwise unused room for rows would be held while the boxes are made.
+    kinds.shrink_to_fit();
+    let least = least_of(PICTURE_PARTS, number_in(by, report.totals));
+    let drawn = boxes_of(alloc, by, least, &report.files, &kinds)?;
+    let boxes = page_boxes(alloc, title, chart, by, &drawn)?;
     let shown = Shown::with_rows(alloc, report, &chart_options(by), &[], extensions)?;
-    let text = page_text(
-        alloc,
-        counted,
-        scale_of(by, report.totals),
-        &report.faults,
-        &shown.sheet(),
-        &boxes,
-    )?;
+    let sheet = shown.sheet();
+    let scale = scale_of(by, report.totals);
+    let mut made = String::new(alloc);
+    let mut text = head_of(alloc, title, chosen, scale.by, &sheet)?;
+    push_body(&mut text, scale, &report.faults, &sheet, &boxes, &mut made)?;
     Ok(text)
 }
 
 /// Makes the page of a report: one file of HTML with no script, no font and no URL.
 ///
-/// The page has what was counted (`counted`, as terminals show it), the sums over all files, a bar for each of the largest extensions, and
-/// boxes for directories and files. Bars and boxes show the number that `sort` names, or lines if `sort` is `None`. The browser divides the
-/// space in proportion to these numbers. If the report has errors, the page says how many, and lists the first hundred.
+/// The page has its title, the chosen files, the sums over all files, boxes for directories and files, and a bar for each of the largest
+/// extensions. `chosen` is empty, or says which files were counted, such as `where ext=.c`. Both are shown as terminals show them. Boxes and
+/// bars show the number that `sort` names, or lines if `sort` is `None`. The browser divides the space in proportion to these numbers. If
+/// the report has errors, the page says how many, and lists the first hundred.
 ///
 /// A directory whose path has at most 250 names has a box of its own if its number, such as lines, is at least 1 and at least a thousandth
-/// of the total. So has a file, if its directory has a box. Each box is inside the box of the directory above it. Of the boxes directly
-/// inside one box, the largest comes first. In each directory, one box shows the child directories that have no boxes of their own, and
-/// another box shows the files that have none. A reader can fold a box to leave its space to other boxes.
+/// of the total. So has a file, if its directory has a box. A directory in which all but less than that is in one child directory shares the
+/// box of this child, which then has both names, such as `gpu/drm`. Each box is inside the box of the directory above it. Of the boxes
+/// directly inside one box, the largest comes first. In each directory, one hatched box shows what has no box of its own. A reader can fold
+/// a box to leave its space to other boxes.
 ///
 /// The report must list its files. An error means that an allocation failed or that sums overflow. The sums of a walk never overflow.
 pub fn page(
     alloc: Global,
-    counted: &[u8],
+    title: &[u8],
+    chosen: &[u8],
     report: &Report,
     sort: Option<Number>,
 ) -> Result<Vec<u8>, AllocError>
-    ensures { IfOk result (λ text. IsPageOf counted.now (drawn_number sort) report.now text.items) }
+    ensures { IfOk result (λ text. IsPageOf title.now chosen.now (drawn_number sort) report.now text.items) }
 {
-    page_by(alloc, counted, report, sort.unwrap_or(Number::Lines))
+    page_by(alloc, title, chosen, report, sort.unwrap_or(Number::Lines))
 }

@@ -1,7 +1,7 @@
-//! What the box of a directory shows for small directories and files that have no boxes of their own.
+//! The box of the rest of a directory: what is directly in the directory, and has no box of its own.
 
 ghost use Rattle.std.specs.Prelude.{◌≡◌, ◌++◌, OnOk};
-ghost use Rattle.lc_picture.specs.Boxes.{others_space, small_box, small_number, small_space, small_word, space};
+ghost use Rattle.lc_picture.specs.Boxes.{number_drawn, others_word, rest_box, rest_name, rest_tag, small_word, space};
 ghost use Rattle.lc_picture.specs.Pieces.{text_of};
 
 use crate::percents::push_percent;
@@ -15,87 +15,95 @@ fn small_word(count: usize) -> &'static [u8]
     ensures { result.now ≡ small_word count }
 {
     if count == 1 {
-        b" small directory: "
+        b" small directory"
     } else {
-        b" small directories: "
+        b" small directories"
     }
 }
 
-/// Appends the number of small directories that the picture draws, such as their lines, and its share of the total.
-fn push_small_number(
+/// Returns the words for other files, which follow those for small directories if there are other files.
+fn others_word(has_others: bool) -> &'static [u8]
+    ensures { result.now ≡ others_word has_others }
+{
+    if has_others { b", others" } else { b"" }
+}
+
+/// Appends the name of the rest of a directory, such as `2 small directories, others`. `rest` is its number, such as lines.
+pub(crate) fn push_rest_name(
     text: &mut Vec<u8>,
-    scale: Scale,
-    number: u128,
+    small: SmallDirectories,
+    rest: u128,
     made: &mut String,
 ) -> Result<(), AllocError>
-    ensures { OnOk result (text.new.items ≡ text.old.items ++ text_of (small_number scale number)) }
+    ensures { OnOk result (text.new.items ≡ text.old.items ++ text_of (rest_name small rest)) }
+{
+    if small.number == 0 {
+        return text.extend_from_slice(b"others");
+    }
+    push_count(text, small.count as u128, made)?;
+    text.extend_from_slice(small_word(small.count))?;
+    text.extend_from_slice(others_word(small.number < rest))
+}
+
+/// Appends the number that a box shows, with its share of the total, such as `lines 7 (38.9%)`, and the tag after it.
+pub(crate) fn push_drawn_number(
+    text: &mut Vec<u8>,
+    scale: Scale,
+    n: u128,
+    made: &mut String,
+) -> Result<(), AllocError>
+    ensures { OnOk result (text.new.items ≡ text.old.items ++ text_of (number_drawn scale n)) }
 {
     text.extend_from_slice(number_word(scale.by))?;
     text.extend_from_slice(b" ")?;
-    push_count(text, number, made)?;
+    push_count(text, n, made)?;
     text.extend_from_slice(b" (")?;
-    push_percent(text, number, scale.whole)?;
-    text.extend_from_slice(b")</em></i>")
+    push_percent(text, n, scale.whole)?;
+    text.extend_from_slice(b")</span>")
 }
 
-/// Appends the box of small directories, with a text such as `2 small directories: lines 10 (0.1%)`.
-fn push_small_box(
+fn push_rest_tag(text: &mut Vec<u8>, colour: usize, rest: u128) -> Result<(), AllocError>
+    ensures { OnOk result (text.new.items ≡ text.old.items ++ text_of (rest_tag colour rest)) }
+{
+    text.extend_from_slice(b"<i class=\"e")?;
+    push_number(text, colour as u128)?;
+    text.extend_from_slice(b"\" style=\"--n:")?;
+    push_number(text, rest)?;
+    text.extend_from_slice(b"\"><b>")?;
+    Ok(())
+}
+
+fn push_rest_box(
     text: &mut Vec<u8>,
     scale: Scale,
+    colour: usize,
     small: SmallDirectories,
+    rest: u128,
     made: &mut String,
 ) -> Result<(), AllocError>
-    ensures { OnOk result (text.new.items ≡ text.old.items ++ text_of (small_box scale small)) }
+    ensures { OnOk result (text.new.items ≡ text.old.items ++ text_of (rest_box scale colour small rest)) }
 {
-    text.extend_from_slice(b"<i style=\"--n:")?;
-    push_number(text, small.number)?;
-    text.extend_from_slice(b"\"><em>")?;
-    push_count(text, small.count as u128, made)?;
-    text.extend_from_slice(small_word(small.count))?;
-    push_small_number(text, scale, small.number, made)?;
+    push_rest_tag(text, colour, rest)?;
+    push_rest_name(text, small, rest, made)?;
+    text.extend_from_slice(b"</b> <span>")?;
+    push_drawn_number(text, scale, rest, made)?;
+    text.extend_from_slice(b"</i>")?;
     Ok(())
 }
 
-/// Appends the box of a directory's small directories, if the directory has some.
-fn push_small_space(
-    text: &mut Vec<u8>,
-    scale: Scale,
-    small: SmallDirectories,
-    made: &mut String,
-) -> Result<(), AllocError>
-    ensures { OnOk result (text.new.items ≡ text.old.items ++ text_of (small_space scale small)) }
-{
-    if small.count >= 1 {
-        push_small_box(text, scale, small, made)?;
-    }
-    Ok(())
-}
-
-fn push_others_space(text: &mut Vec<u8>, left: u128, made: &mut String) -> Result<(), AllocError>
-    ensures { OnOk result (text.new.items ≡ text.old.items ++ text_of (others_space left)) }
-{
-    text.extend_from_slice(b"<i style=\"--n:")?;
-    push_number(text, left)?;
-    text.extend_from_slice(b"\"><em>others ")?;
-    push_count(text, left, made)?;
-    text.extend_from_slice(b"</em></i>")?;
-    Ok(())
-}
-
-/// Appends, inside the box of a directory, the boxes of its small directories and of its other files. Appends nothing for a file.
+/// Appends, inside the box of a directory, the box of its rest, if this has a number.
 pub(crate) fn push_space(
     text: &mut Vec<u8>,
     scale: Scale,
-    is_file: bool,
+    colour: usize,
     small: SmallDirectories,
-    left: u128,
+    rest: u128,
     made: &mut String,
 ) -> Result<(), AllocError>
-    ensures { OnOk result (text.new.items ≡ text.old.items ++ text_of (space scale is_file small left)) }
+    ensures { OnOk result (text.new.items ≡ text.old.items ++ text_of (space scale colour small rest)) }
 {
-    if is_file {
-        return Ok(());
+    if rest >= 1 {
+        push_rest_box(text, scale, colour, small, rest, made)?;
     }
-    push_small_space(text, scale, small, made)?;
-    push_others_space(text, left, made)
+    Ok(())
 }

@@ -33,7 +33,7 @@ fn what_could_not_be_read(rt: HostRuntime) -> Result<(), Fail> {
     let mut report = report_of(alloc, &[], [0, 0, 0, 0], &[])?;
     report.faults.push(fault(alloc, b"", FaultWord::Name)?)?;
     report.faults.push(fault(alloc, b"a<b", FaultWord::Read)?)?;
-    let text = page(alloc, b"tree", &report, None)?;
+    let text = page(alloc, b"tree", b"", &report, None)?;
     let end = end_with_faults(
         alloc,
         b"2</p>\n<ul>\n<li>.: name</li>\n<li>a&#60;b: read</li>\n</ul>\n",
@@ -42,8 +42,8 @@ fn what_could_not_be_read(rt: HostRuntime) -> Result<(), Fail> {
     for _ in 0..100 {
         report.faults.push(fault(alloc, b"x", FaultWord::Read)?)?;
     }
-    let text = page(alloc, b"tree", &report, None)?;
-    let end = b"<li>x: read</li>\n<li>and 2 more</li>\n</ul>\n<h2>";
+    let text = page(alloc, b"tree", b"", &report, None)?;
+    let end = b"<li>x: read</li>\n<li>and 2 more</li>\n</ul>\n<div";
     assert!(rt; text.windows(end.len()).any(|part| part == end.as_slice()));
     Ok(())
 }

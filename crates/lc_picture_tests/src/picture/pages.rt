@@ -64,30 +64,29 @@ const CASES: &[Case] = &[
                 <td>15</td><td>5.6%</td><td><div class=\"bar\"><i style=\"--n:1\">\
                 </i><u style=\"--n:12\"></u></div></td></tr>\n",
             b"lines",
-            b"<details class=\"e0\" style=\"--n:18\" open><summary title=\".: lines 18, files 5, blank 5, bytes 109, \
-                100.0% of all lines\"><b>.</b> <span>lines 18 (100.0%)</span></summary><div><i style=\"--n:0\"><em>others 0</em>\
-                </i><details class=\"e0\" style=\"--n:11\" open><summary title=\"src: lines 11, files 3, blank 3, bytes 85, \
-                61.1% of all lines\"><b>src</b> <span>lines 11 (61.1%)</span></summary><div><i style=\"--n:0\"><em>others 0</em>\
-                </i><details class=\"e0\" style=\"--n:7\" open><summary title=\"src/main.c: lines 7, files 1, blank 0, \
-                bytes 50, 38.9% of all lines\"><b>main.c</b> <span>lines 7 (38.9%)</span></summary><div></div></details>\n\
-                <details class=\"e0\" style=\"--n:4\" open><summary title=\"src/view: lines 4, files 2, blank 3, bytes 35, \
-                22.2% of all lines\"><b>view</b> <span>lines 4 (22.2%)</span></summary><div><i style=\"--n:0\"><em>others 0</em>\
-                </i><details class=\"e0\" style=\"--n:3\" open><summary title=\"src/view/rows.c: lines 3, files 1, blank 3, \
-                bytes 20, 16.7% of all lines\"><b>rows.c</b> <span>lines 3 (16.7%)</span></summary><div></div></details>\n\
-                <details class=\"e2\" style=\"--n:1\" open><summary title=\"src/view/old: lines 1, files 1, blank 0, bytes 15, \
-                5.6% of all lines\"><b>old</b> <span>lines 1 (5.6%)</span></summary><div><i style=\"--n:0\"><em>others 0</em>\
-                </i><details class=\"e2\" style=\"--n:1\" open><summary title=\"src/view/old/rows.h: lines 1, files 1, blank 0, \
-                bytes 15, 5.6% of all lines\"><b>rows.h</b> <span>lines 1 (5.6%)</span></summary><div></div></details>\n\
-                </div></details>\n\
-                </div></details>\n\
-                </div></details>\n\
-                <details class=\"e1\" style=\"--n:4\" open><summary title=\"Makefile: lines 4, files 1, blank 1, bytes 9, \
-                22.2% of all lines\"><b>Makefile</b> <span>lines 4 (22.2%)</span></summary><div></div></details>\n\
-                <details class=\"e0\" style=\"--n:3\" open><summary title=\"src-old: lines 3, files 1, blank 1, bytes 15, \
-                16.7% of all lines\"><b>src-old</b> <span>lines 3 (16.7%)</span></summary><div><i style=\"--n:0\"><em>\
-                others 0</em></i><details class=\"e0\" style=\"--n:3\" open><summary title=\"src-old/main.c: lines 3, files 1, \
-                blank 1, bytes 15, 16.7% of all lines\"><b>main.c</b> <span>lines 3 (16.7%)</span></summary><div></div>\
+            b"<details class=\"e0\" style=\"--n:18\" open><summary title=\".: lines 18, files 5, blank 5, bytes 109, 100.0% of all \
+                lines\"><b>a&#60;b</b> <span>lines 18 (100.0%)</span></summary><div><details class=\"e0\" style=\"--n:11\" open>\
+                <summary title=\"src: lines 11, files 3, blank 3, bytes 85, 61.1% of all lines\"><b>src</b> <span>lines 11 \
+                (61.1%)</span></summary><div><details class=\"e0\" style=\"--n:7\" open><summary title=\"src/main.c: lines 7, \
+                files 1, blank 0, bytes 50, 38.9% of all lines\"><b>main.c</b> <span>lines 7 (38.9%)</span></summary><div></div>\
                 </details>\n\
+                <details class=\"e0\" style=\"--n:4\" open><summary title=\"src/view: lines 4, files 2, blank 3, bytes 35, 22.2% \
+                of all lines\"><b>view</b> <span>lines 4 (22.2%)</span></summary><div><details class=\"e0\" style=\"--n:3\" open>\
+                <summary title=\"src/view/rows.c: lines 3, files 1, blank 3, bytes 20, 16.7% of all lines\"><b>rows.c</b> \
+                <span>lines 3 (16.7%)</span></summary><div></div></details>\n\
+                <details class=\"e2\" style=\"--n:1\" open><summary title=\"src/view/old: lines 1, files 1, blank 0, bytes 15, \
+                5.6% of all lines\"><b>old</b> <span>lines 1 (5.6%)</span></summary><div><details class=\"e2\" style=\"--n:1\" \
+                open><summary title=\"src/view/old/rows.h: lines 1, files 1, blank 0, bytes 15, 5.6% of all lines\"><b>rows.h</b> \
+                <span>lines 1 (5.6%)</span></summary><div></div></details>\n\
+                </div></details>\n\
+                </div></details>\n\
+                </div></details>\n\
+                <details class=\"e1\" style=\"--n:4\" open><summary title=\"Makefile: lines 4, files 1, blank 1, bytes 9, 22.2% of \
+                all lines\"><b>Makefile</b> <span>lines 4 (22.2%)</span></summary><div></div></details>\n\
+                <details class=\"e0\" style=\"--n:3\" open><summary title=\"src-old: lines 3, files 1, blank 1, bytes 15, 16.7% of \
+                all lines\"><b>src-old</b> <span>lines 3 (16.7%)</span></summary><div><details class=\"e0\" style=\"--n:3\" open>\
+                <summary title=\"src-old/main.c: lines 3, files 1, blank 1, bytes 15, 16.7% of all lines\"><b>main.c</b> \
+                <span>lines 3 (16.7%)</span></summary><div></div></details>\n\
                 </div></details>\n\
                 </div></details>\n",
         ],
@@ -124,29 +123,24 @@ const CASES: &[Case] = &[
                 <td>5</td><td>0.2%</td><td><div class=\"bar\"><i style=\"--n:5\">\
                 </i><u style=\"--n:1990\"></u></div></td></tr>\n",
             b"bytes",
-            b"<details class=\"e0\" style=\"--n:3000\" open><summary title=\".: lines 8, files 4, blank 0, bytes 3,000, \
-                100.0% of all bytes\"><b>.</b> <span>bytes 3,000 (100.0%)</span></summary><div><i style=\"--n:2\"><em>\
-                1 small directory: bytes 2 (0.1%)</em></i><i style=\"--n:0\"><em>others 0</em></i>\
-                <details class=\"e0\" style=\"--n:1995\" open><summary title=\"\\xff: lines 2, files 1, blank 0, bytes 1,995, \
-                66.5% of all bytes\"><b>\\xff</b> <span>bytes 1,995 (66.5%)</span></summary><div><i style=\"--n:0\"><em>\
-                others 0</em></i><details class=\"e0\" style=\"--n:1995\" open><summary title=\"\\xff/\\xe2\\x80\\xae: lines 2, \
-                files 1, blank 0, bytes 1,995, 66.5% of all bytes\"><b>\\xe2\\x80\\xae</b> <span>bytes 1,995 (66.5%)</span>\
-                </summary><div><i style=\"--n:0\"><em>others 0</em></i><details class=\"e0\" style=\"--n:1995\" open>\
-                <summary title=\"\\xff/\\xe2\\x80\\xae/y: lines 2, files 1, blank 0, bytes 1,995, 66.5% of all bytes\"><b>y</b> \
-                <span>bytes 1,995 (66.5%)</span></summary><div></div></details>\n\
+            b"<details class=\"e0\" style=\"--n:3000\" open><summary title=\".: lines 8, files 4, blank 0, bytes 3,000, 100.0% of \
+                all bytes\"><b>a&#60;b</b> <span>bytes 3,000 (100.0%)</span></summary><div><i class=\"e2\" style=\"--n:2\"><b>1 \
+                small directory</b> <span>bytes 2 (0.1%)</span></i><details class=\"e0\" style=\"--n:1995\" open><summary \
+                title=\"\\xff/\\xe2\\x80\\xae: lines 2, files 1, blank 0, bytes 1,995, 66.5% of all bytes\">\
+                <b>\\xff/\\xe2\\x80\\xae</b> <span>bytes 1,995 (66.5%)</span></summary><div><details class=\"e0\" \
+                style=\"--n:1995\" open><summary title=\"\\xff/\\xe2\\x80\\xae/y: lines 2, files 1, blank 0, bytes 1,995, 66.5% of \
+                all bytes\"><b>y</b> <span>bytes 1,995 (66.5%)</span></summary><div></div></details>\n\
                 </div></details>\n\
+                <details class=\"e1\" style=\"--n:1000\" open><summary title=\"&#60;b&#62;&#38;amp;&#34;&#39;: lines 1, files 1, \
+                blank 0, bytes 1,000, 33.3% of all bytes\"><b>&#60;b&#62;&#38;amp;&#34;&#39;</b> <span>bytes 1,000 (33.3%)</span>\
+                </summary><div><details class=\"e1\" style=\"--n:1000\" open><summary \
+                title=\"&#60;b&#62;&#38;amp;&#34;&#39;/x.&#60;i&#62;: lines 1, files 1, blank 0, bytes 1,000, 33.3% of all \
+                bytes\"><b>x.&#60;i&#62;</b> <span>bytes 1,000 (33.3%)</span></summary><div></div></details>\n\
                 </div></details>\n\
-                <details class=\"e1\" style=\"--n:1000\" open><summary title=\"&#60;b&#62;&#38;amp;&#34;&#39;: lines 1, \
-                files 1, blank 0, bytes 1,000, 33.3% of all bytes\"><b>&#60;b&#62;&#38;amp;&#34;&#39;</b> <span>bytes 1,\
-                000 (33.3%)</span></summary><div><i style=\"--n:0\"><em>others 0</em></i>\
-                <details class=\"e1\" style=\"--n:1000\" open>\
-                <summary title=\"&#60;b&#62;&#38;amp;&#34;&#39;/x.&#60;i&#62;: lines 1, files 1, blank 0, bytes 1,000, \
-                33.3% of all bytes\"><b>x.&#60;i&#62;</b> <span>bytes 1,000 (33.3%)</span></summary><div></div></details>\n\
-                </div></details>\n\
-                <details class=\"e2\" style=\"--n:3\" open><summary title=\"deep: lines 0, files 1, blank 0, bytes 3, \
-                0.1% of all bytes\"><b>deep</b> <span>bytes 3 (0.1%)</span></summary><div><i style=\"--n:0\"><em>others 0</em>\
-                </i><details class=\"e2\" style=\"--n:3\" open><summary title=\"deep/z.h: lines 0, files 1, blank 0, bytes 3, \
-                0.1% of all bytes\"><b>z.h</b> <span>bytes 3 (0.1%)</span></summary><div></div></details>\n\
+                <details class=\"e2\" style=\"--n:3\" open><summary title=\"deep: lines 0, files 1, blank 0, bytes 3, 0.1% of all \
+                bytes\"><b>deep</b> <span>bytes 3 (0.1%)</span></summary><div><details class=\"e2\" style=\"--n:3\" open><summary \
+                title=\"deep/z.h: lines 0, files 1, blank 0, bytes 3, 0.1% of all bytes\"><b>z.h</b> <span>bytes 3 (0.1%)</span>\
+                </summary><div></div></details>\n\
                 </div></details>\n\
                 </div></details>\n",
         ],
@@ -175,47 +169,52 @@ const CASES: &[Case] = &[
                 <td>9</td><td>40.0%</td><td><div class=\"bar\"><i style=\"--n:6\">\
                 </i><u style=\"--n:3\"></u></div></td></tr>\n",
             b"lines",
-            b"<details class=\"e0\" style=\"--n:15\" open><summary title=\".: lines 15, files 5, blank 0, bytes 20, \
-                100.0% of all lines\"><b>.</b> <span>lines 15 (100.0%)</span></summary><div><i style=\"--n:0\"><em>others 0</em>\
-                </i><details class=\"e0\" style=\"--n:5\" open><summary title=\"/: lines 5, files 1, blank 0, bytes 6, \
-                33.3% of all lines\"><b>/</b> <span>lines 5 (33.3%)</span></summary><div><i style=\"--n:0\"><em>others 0</em>\
-                </i><details class=\"e0\" style=\"--n:5\" open><summary title=\"/x.h: lines 5, files 1, blank 0, bytes 6, \
-                33.3% of all lines\"><b>x.h</b> <span>lines 5 (33.3%)</span></summary><div></div></details>\n\
+            b"<details class=\"e0\" style=\"--n:15\" open><summary title=\".: lines 15, files 5, blank 0, bytes 20, 100.0% of all \
+                lines\"><b>a&#60;b</b> <span>lines 15 (100.0%)</span></summary><div><details class=\"e0\" style=\"--n:5\" open>\
+                <summary title=\"/: lines 5, files 1, blank 0, bytes 6, 33.3% of all lines\"><b>/</b> <span>lines 5 (33.3%)</span>\
+                </summary><div><details class=\"e0\" style=\"--n:5\" open><summary title=\"/x.h: lines 5, files 1, blank 0, bytes \
+                6, 33.3% of all lines\"><b>x.h</b> <span>lines 5 (33.3%)</span></summary><div></div></details>\n\
                 </div></details>\n\
-                <details class=\"e0\" style=\"--n:4\" open><summary title=\"/usr: lines 4, files 1, blank 0, bytes 5, \
-                26.7% of all lines\"><b>/usr</b> <span>lines 4 (26.7%)</span></summary><div><i style=\"--n:0\"><em>others 0</em>\
-                </i><details class=\"e0\" style=\"--n:4\" open><summary title=\"/usr/include: lines 4, files 1, blank 0, \
-                bytes 5, 26.7% of all lines\"><b>include</b> <span>lines 4 (26.7%)</span></summary><div><i style=\"--n:0\"><em>\
-                others 0</em></i><details class=\"e0\" style=\"--n:4\" open><summary title=\"/usr/include/x.h: lines 4, \
-                files 1, blank 0, bytes 5, 26.7% of all lines\"><b>x.h</b> <span>lines 4 (26.7%)</span></summary><div></div>\
-                </details>\n\
+                <details class=\"e0\" style=\"--n:4\" open><summary title=\"/usr/include: lines 4, files 1, blank 0, bytes 5, \
+                26.7% of all lines\"><b>/usr/include</b> <span>lines 4 (26.7%)</span></summary><div><details class=\"e0\" \
+                style=\"--n:4\" open><summary title=\"/usr/include/x.h: lines 4, files 1, blank 0, bytes 5, 26.7% of all lines\">\
+                <b>x.h</b> <span>lines 4 (26.7%)</span></summary><div></div></details>\n\
                 </div></details>\n\
+                <details class=\"e1\" style=\"--n:3\" open><summary title=\"x.c: lines 3, files 1, blank 0, bytes 4, 20.0% of all \
+                lines\"><b>x.c</b> <span>lines 3 (20.0%)</span></summary><div></div></details>\n\
+                <details class=\"e1\" style=\"--n:2\" open><summary title=\"./src: lines 2, files 1, blank 0, bytes 3, 13.3% of \
+                all lines\"><b>./src</b> <span>lines 2 (13.3%)</span></summary><div><details class=\"e1\" style=\"--n:2\" open>\
+                <summary title=\"./src/m.c: lines 2, files 1, blank 0, bytes 3, 13.3% of all lines\"><b>m.c</b> <span>lines 2 \
+                (13.3%)</span></summary><div></div></details>\n\
                 </div></details>\n\
-                <details class=\"e1\" style=\"--n:3\" open><summary title=\"x.c: lines 3, files 1, blank 0, bytes 4, \
-                20.0% of all lines\"><b>x.c</b> <span>lines 3 (20.0%)</span></summary><div></div></details>\n\
-                <details class=\"e1\" style=\"--n:2\" open><summary title=\"./src: lines 2, files 1, blank 0, bytes 3, \
-                13.3% of all lines\"><b>./src</b> <span>lines 2 (13.3%)</span></summary><div><i style=\"--n:0\"><em>\
-                others 0</em></i><details class=\"e1\" style=\"--n:2\" open><summary title=\"./src/m.c: lines 2, files 1, \
-                blank 0, bytes 3, 13.3% of all lines\"><b>m.c</b> <span>lines 2 (13.3%)</span></summary><div></div></details>\n\
-                </div></details>\n\
-                <details class=\"e1\" style=\"--n:1\" open><summary title=\"../lib: lines 1, files 1, blank 0, bytes 2, \
-                6.7% of all lines\"><b>../lib</b> <span>lines 1 (6.7%)</span></summary><div><i style=\"--n:0\"><em>others 0</em>\
-                </i><details class=\"e1\" style=\"--n:1\" open><summary title=\"../lib/a.c: lines 1, files 1, blank 0, bytes 2, \
-                6.7% of all lines\"><b>a.c</b> <span>lines 1 (6.7%)</span></summary><div></div></details>\n\
+                <details class=\"e1\" style=\"--n:1\" open><summary title=\"../lib: lines 1, files 1, blank 0, bytes 2, 6.7% of \
+                all lines\"><b>../lib</b> <span>lines 1 (6.7%)</span></summary><div><details class=\"e1\" style=\"--n:1\" open>\
+                <summary title=\"../lib/a.c: lines 1, files 1, blank 0, bytes 2, 6.7% of all lines\"><b>a.c</b> <span>lines 1 \
+                (6.7%)</span></summary><div></div></details>\n\
                 </div></details>\n\
                 </div></details>\n",
         ],
     },
 ];
 
-/// Files with 10,000 lines. The directories `a/s`, `b`, `c` and `c/d` have less than a thousandth of these lines each.
+/// Files with 10,000 lines. The directories `a/s`, `b`, `c` and `c/d` have less than a thousandth of these lines each, and so has what is in
+/// `a` but not in `a/k`.
 const SMALL: &[File] = &[
-    (b"a/s/q.c", [4, 0, 4]),
-    (b"a/x.c", [9_984, 0, 9_984]),
-    (b"b/y.c", [5, 0, 5]),
+    (b"a/k/x.c", [9_981, 0, 9_981]),
+    (b"a/s/q.h", [4, 0, 4]),
+    (b"b/y.h", [8, 0, 8]),
     (b"c/d/w.c", [3, 0, 3]),
     (b"c/z.c", [2, 0, 2]),
     (b"m.c", [2, 0, 2]),
+];
+
+/// Files in chains of directories: of `gpu` and `gpu/drm`, and of three directories in `net`.
+const CHAINS: &[File] = &[
+    (b"src/gpu/drm/amd/x.c", [6, 0, 6]),
+    (b"src/gpu/drm/y.c", [2, 0, 2]),
+    (b"src/gpu/empty.c", [0, 0, 0]),
+    (b"src/net/core/v4/w.c", [1, 0, 1]),
+    (b"src/net/core/none/v.c", [0, 0, 0]),
 ];
 
 /// The rows of 22 extensions. The chart has no place for the last two.
@@ -252,12 +251,12 @@ fn has_parts(alloc: Global, case: &Case) -> Result<bool, AllocError> {
     body.extend_from_slice(b" by directory</p>\n<dl>\n")?;
     body.extend_from_slice(case.parts[0])?;
     body.extend_from_slice(b"</dl>\n")?;
-    for (between, part) in BETWEEN.iter().zip(&case.parts[1..]) {
+    for (between, part) in BETWEEN.iter().zip(case.parts[1..].iter().rev()) {
         body.extend_from_slice(between)?;
         body.extend_from_slice(part)?;
     }
     body.extend_from_slice(BETWEEN[3])?;
-    let text = page(alloc, b"a<b", &report, case.sort)?;
+    let text = page(alloc, b"a<b", b"", &report, case.sort)?;
     Ok(text.ends_with(&body))
 }
 
@@ -271,35 +270,74 @@ fn pages(rt: HostRuntime) -> Result<(), Fail> {
 
 #[test]
 fn small_directories_and_files_are_drawn_together(rt: HostRuntime) -> Result<(), Fail> {
-    let rows: &[Row] = &[(Some(b"c"), [6, 10_000, 0, 10_000])];
+    let rows: &[Row] = &[
+        (Some(b"c"), [4, 9_988, 0, 9_988]),
+        (Some(b"h"), [2, 12, 0, 12]),
+    ];
     let report = report_of(rt.alloc(), rows, [6, 10_000, 0, 10_000], SMALL)?;
-    let text = page(rt.alloc(), b"tree", &report, None)?;
-    let end = b"<b>.</b> <span>lines 10,000 (100.0%)</span></summary><div><i style=\"--n:10\"><em>\
-        2 small directories: lines 10 (0.1%)</em></i><i style=\"--n:2\"><em>others 2</em></i>\
-        <details class=\"e0\" style=\"--n:9988\" open><summary title=\"a: lines 9,988, files 2, blank 0, bytes 9,988, \
-        99.9% of all lines\"><b>a</b> <span>lines 9,988 (99.9%)</span></summary><div><i style=\"--n:4\"><em>\
-        1 small directory: lines 4 (0.0%)</em></i><i style=\"--n:0\"><em>others 0</em></i>\
-        <details class=\"e0\" style=\"--n:9984\" open><summary title=\"a/x.c: lines 9,984, files 1, blank 0, bytes 9,\
-        984, 99.8% of all lines\"><b>x.c</b> <span>lines 9,984 (99.8%)</span></summary><div></div></details>\n\
+    let text = page(rt.alloc(), b"tree", b"", &report, None)?;
+    let end =
+        b"<b>tree</b> <span>lines 10,000 (100.0%)</span></summary><div><i class=\"e1\" style=\"--n:19\"><b>2 small \
+        directories, others</b> <span>lines 19 (0.2%)</span></i><details class=\"e0\" style=\"--n:9981\" open><summary \
+        title=\"a/k: lines 9,981, files 1, blank 0, bytes 9,981, 99.8% of all lines\"><b>a/k</b> <span>lines 9,981 (99.8%)</span>\
+        </summary><div><details class=\"e0\" style=\"--n:9981\" open><summary title=\"a/k/x.c: lines 9,981, files 1, blank 0, \
+        bytes 9,981, 99.8% of all lines\"><b>x.c</b> <span>lines 9,981 (99.8%)</span></summary><div></div></details>\n\
         </div></details>\n\
         </div></details>\n\
         </div>\n\
-        </body>\n\
-        </html>\n";
-    assert!(rt; text.ends_with(end));
+        <p>";
+    assert!(rt; text.windows(end.len()).any(|part| part == end.as_slice()));
+    Ok(())
+}
+
+#[test]
+fn a_chain_of_directories_is_one_box(rt: HostRuntime) -> Result<(), Fail> {
+    let report = report_of(
+        rt.alloc(),
+        &[(Some(b"c"), [5, 9, 0, 9])],
+        [5, 9, 0, 9],
+        CHAINS,
+    )?;
+    let text = page(rt.alloc(), b"tree", b"", &report, None)?;
+    let end =
+        b"<b>src</b> <span>lines 9 (100.0%)</span></summary><div><details class=\"e0\" style=\"--n:8\" open><summary \
+        title=\"src/gpu/drm: lines 8, files 2, blank 0, bytes 8, 88.9% of all lines\"><b>gpu/drm</b> <span>lines 8 (88.9%)</span>\
+        </summary><div><details class=\"e0\" style=\"--n:6\" open><summary title=\"src/gpu/drm/amd: lines 6, files 1, blank 0, \
+        bytes 6, 66.7% of all lines\"><b>amd</b> <span>lines 6 (66.7%)</span></summary><div><details class=\"e0\" style=\"--n:6\" \
+        open><summary title=\"src/gpu/drm/amd/x.c: lines 6, files 1, blank 0, bytes 6, 66.7% of all lines\"><b>x.c</b> <span>lines \
+        6 (66.7%)</span></summary><div></div></details>\n\
+        </div></details>\n\
+        <details class=\"e0\" style=\"--n:2\" open><summary title=\"src/gpu/drm/y.c: lines 2, files 1, blank 0, bytes 2, 22.2% of \
+        all lines\"><b>y.c</b> <span>lines 2 (22.2%)</span></summary><div></div></details>\n\
+        </div></details>\n\
+        <details class=\"e0\" style=\"--n:1\" open><summary title=\"src/net/core/v4: lines 1, files 1, blank 0, bytes 1, 11.1% of \
+        all lines\"><b>net/core/v4</b> <span>lines 1 (11.1%)</span></summary><div><details class=\"e0\" style=\"--n:1\" open>\
+        <summary title=\"src/net/core/v4/w.c: lines 1, files 1, blank 0, bytes 1, 11.1% of all lines\"><b>w.c</b> <span>lines 1 \
+        (11.1%)</span></summary><div></div></details>\n\
+        </div></details>\n\
+        </div></details>\n\
+        </div></details>\n\
+        </div>\n\
+        <p>";
+    assert!(rt; text.windows(end.len()).any(|part| part == end.as_slice()));
     Ok(())
 }
 
 #[test]
 fn a_page_is_one_whole_document(rt: HostRuntime) -> Result<(), Fail> {
     let report = report_of(rt.alloc(), &[], [0, 0, 0, 0], &[])?;
-    let text = page(rt.alloc(), b"a<b", &report, None)?;
+    let text = page(rt.alloc(), b"a<b", b"where lines<9", &report, None)?;
     assert!(rt;
         text.starts_with(
             b"<!DOCTYPE html>\n<html lang=\"en\">\n<head>\n<meta charset=\"utf-8\">\n\
               <meta name=\"viewport\" content=\"width=device-width\">\n\
-              <title>a&#60;b: lines by directory</title>\n<style>\n"
+              <title>a&#60;b: lines of files where lines&#60;9</title>\n<style>\n"
         )
+    );
+    let heading = b"<h1>a&#60;b</h1>\n<p class=\"by\">lines of files where lines&#60;9</p>\n<dl>\n";
+    assert!(rt;
+        text.windows(heading.len())
+            .any(|part| part == heading.as_slice())
     );
     Ok(())
 }
@@ -312,11 +350,8 @@ fn extensions_that_the_chart_has_no_place_for(rt: HostRuntime) -> Result<(), Fai
           <i style=\"--n:21\"></i><u style=\"--n:19\"></u></div></td></tr>\n\
           <tr><th>others</th><td>2</td><td>39</td><td>41</td><td>82</td><td>6.0%</td><td></td></tr>\n"
             .to_vec(rt.alloc())?;
-    end.extend_from_slice(BETWEEN[1])?;
-    end.extend_from_slice(b"lines")?;
-    end.extend_from_slice(BETWEEN[2])?;
     end.extend_from_slice(BETWEEN[3])?;
-    let text = page(rt.alloc(), b"tree", &report, Some(Number::Lines))?;
+    let text = page(rt.alloc(), b"tree", b"", &report, Some(Number::Lines))?;
     assert!(rt; text.ends_with(&end));
     Ok(())
 }

@@ -13,16 +13,16 @@ pub(super) type File = (&'static [u8], [u64; 3]);
 /// A row of a report: its extension, and its files, lines, blank lines and bytes.
 pub(super) type Row = (Option<&'static [u8]>, [u64; 4]);
 
-/// Four fixed parts of a page: before the rows of the chart, before the word for the drawn number, before the boxes, and after the boxes.
+/// Four fixed parts of a page: before the boxes, before the word for the drawn number, before the rows of the chart, and after these rows.
 pub(super) const BETWEEN: [&[u8]; 4] = [
-    b"<h2>By extension</h2>\n<table>\n\
-      <tr><th>extension</th><th>files</th><th>lines</th><th>blank</th><th>bytes</th><th>share</th><td></td></tr>\n",
-    b"</table>\n<h2>By directory</h2>\n<p>Each box is as tall as its share of the ",
+    b"<div class=\"tree\">\n",
+    b"</div>\n<p>Each box is as tall as its share of the ",
     b", in the colour of the extension that has most of them. \
-      Directories with less than a thousandth of all are drawn together, and others are the files right in a directory \
-      with less than that. \
-      Fold a box to make room for the rest.</p>\n<div class=\"tree\">\n",
-    b"</div>\n</body>\n</html>\n",
+      A hatched box shows the directories and files with less than a thousandth of all. \
+      Fold a box to make room for the rest.</p>\n\
+      <h2>By extension</h2>\n<table>\n\
+      <tr><th>extension</th><th>files</th><th>lines</th><th>blank</th><th>bytes</th><th>share</th><td></td></tr>\n",
+    b"</table>\n</body>\n</html>\n",
 ];
 
 fn sums([files, lines, blank, bytes]: [u64; 4]) -> Sums {

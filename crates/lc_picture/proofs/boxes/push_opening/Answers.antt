@@ -15,11 +15,11 @@ returns c =
     let d = c.drawn.inside in
     let n = number_in scale.by d.sums in
     two_texts t0 t1 t4 (tag scale.by d.depth d.colour d.sums)
-    (title_of scale d.path.now d.sums ++ (label scale d.own_name.now n ++ space scale d.is_file d.small c.args.left))
+    (title_of scale d.path.now d.sums ++ (label scale d.own_name.now n ++ space scale d.rest_colour d.small c.args.rest))
     c.in_ok-push_tag.ensures
-    (two_texts t1 t2 t4 (title_of scale d.path.now d.sums) (label scale d.own_name.now n ++ space scale d.is_file d.small c.args.left)
+    (two_texts t1 t2 t4 (title_of scale d.path.now d.sums) (label scale d.own_name.now n ++ space scale d.rest_colour d.small c.args.rest)
     c.in_ok-push_title.ensures
-    (two_texts t2 t3 t4 (label scale d.own_name.now n) (space scale d.is_file d.small c.args.left)
+    (two_texts t2 t3 t4 (label scale d.own_name.now n) (space scale d.rest_colour d.small c.args.rest)
     (c.in_ok-push_label.ensures ∙ ap (λ (m : ℕ). t2 ++ text_of (label scale d.own_name.now m)) c.number_in.ensures)
     c.in_ok-push_space.ensures))
-    ∙ ap (λ (b : BoxModel). t0 ++ text_of (opening scale b c.args.left)) c.drawn.view_is
+    ∙ ap (λ (b : BoxModel). t0 ++ text_of (opening scale b c.args.rest)) c.drawn.view_is

@@ -4,5 +4,4 @@ use Rattle.lc_picture.proofs.directory_box.drawn_boxes.Given as goal
 
 abbrev pub invariant-loop-index : goal.invariant-loop-index
 invariant-loop-index l =
-    l.boxes.items ++ drawn_boxes l.by l.least l.chart (drop l.place l.kinds) (drop l.index l.rows)
-    ≡ drawn_boxes l.by l.least l.chart l.kinds l.rows
+    l.boxes.items ++ drawn_boxes l.by l.least (drop l.place l.kinds) (drop l.index l.rows) ≡ drawn_boxes l.by l.least l.kinds l.rows

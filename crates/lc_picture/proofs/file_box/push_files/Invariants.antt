@@ -4,4 +4,5 @@ use Rattle.lc_picture.proofs.file_box.push_files.Given as goal
 
 abbrev pub invariant-loop-file : goal.invariant-loop-file
 invariant-loop-file l =
-    l.boxes.items ++ files_in l.directory (drop l.file-index l.files) ≡ l.initial.boxes.items ++ files_in l.directory l.files
+    l.boxes.items ++ files_in l.directory l.depth (drop l.file-index l.files)
+    ≡ l.initial.boxes.items ++ files_in l.directory l.depth l.files
