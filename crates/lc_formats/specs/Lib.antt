@@ -16,6 +16,7 @@ pub mod BarCells
 pub mod Cells
 pub mod TableText
 pub mod PaddedText
+pub mod TreeText
 pub mod Widening
 pub mod MarkdownCells
 pub mod MarkdownText

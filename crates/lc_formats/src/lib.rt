@@ -16,6 +16,7 @@
 //! - `section_lines`, `widths`: the lines of a section in these columns, and the width of each column
 //! - `cells`, `cell_text`: the cells of a line in a human-readable table, and the texts of their values
 //! - `paths`: the paths of a sheet, for other programs
+//! - `tree_lines`: lines of a tree, each with a number, its share and a bar before it
 //! - `numbers`: numbers as digits, with and without commas
 //! - `shares`: shares in per cent, and bars
 //! - `csv_laws`: the law that CSV reads back as the printed records
@@ -45,6 +46,7 @@ mod shares;
 mod sheet_text;
 mod table;
 mod table_laws;
+mod tree_lines;
 mod tsv;
 mod widths;
 
@@ -59,3 +61,4 @@ pub use table_laws::{
     changes_in_per_cent_are_of_old_numbers, lines_end_without_blanks, lines_of_a_part_are_as_wide,
     numbers_with_commas_read_back, shares_are_of_the_whole,
 };
+pub use tree_lines::{TreeLine, tree_text};

@@ -116,7 +116,7 @@ impl Widths {
     }
 
     /// Returns the width of a column: 0 if it has no cell.
-    fn width(&self, column: usize) -> usize
+    pub(crate) fn width(&self, column: usize) -> usize
         ensures { result ≡ slice_index self.now column }
     {
         self.of_columns.get(column).copied().unwrap_or(0)

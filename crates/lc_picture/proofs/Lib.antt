@@ -16,4 +16,5 @@ pub mod Pages
 pub mod Nesting
 pub mod InsideBoxes
 pub mod ChainLaws
+pub mod TreeSums
 pub mod ChainDepths

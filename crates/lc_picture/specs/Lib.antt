@@ -12,5 +12,9 @@ pub mod Head
 pub mod Faults
 pub mod Chart
 pub mod Page
+pub mod TreeLines
+pub mod TreeMarks
+pub mod Tree
 pub mod Laws
+pub mod TreeLaws
 pub mod Inside

@@ -4,6 +4,7 @@ ghost use Rattle.lc_picture.specs.Inside.{InsideLaw};
 ghost use Rattle.lc_picture.specs.Places.{FallingLaw};
 ghost use Rattle.lc_picture.specs.Laws.{ChainsLaw, ColoursLaw, DrawnLaw, JoinedDepthsLaw, LargeLaw, NestingLaw, OutlineLaw, ReportLaw};
 ghost use Rattle.lc_picture.specs.Laws.{ShownLaw, SumsLaw, TagLaw, UnescapedLaw};
+ghost use Rattle.lc_picture.specs.TreeLaws.{TreeSumsLaw};
 
 /// The law that a name in the page neither begins nor ends a tag or an attribute. If the character references in the name are decoded, the
 /// result is the name as terminals show it.
@@ -66,4 +67,10 @@ pub fn larger_boxes_come_first()
 /// The law that no name adds a tag to the boxes or takes one away. Apart from the names themselves, the boxes are the same for any names.
 pub fn names_change_no_tag()
     ensures { OutlineLaw }
+{}
+
+/// The law that the numbers of a tree add up: if lines are shown below the line of a directory, the numbers of those directly below it add
+/// up to the directory's number. The number of each box must be at least the sum of those of the boxes directly inside it.
+pub fn lines_of_a_tree_add_up()
+    ensures { TreeSumsLaw }
 {}

@@ -1,6 +1,8 @@
 //! The picture of a tree: a page of HTML with the sums of a report, a bar chart of its extensions, and boxes of directories and files.
 //!
 //! - `report_page`: the page of a report
+//! - `report_tree`: the tree of a report, as lines for a terminal
+//! - `tree_lines`, `tree_marks`: the lines of a tree, and the marks that draw it
 //! - `head`: what was counted, and the sums over all files
 //! - `faults`: the errors at the top of a page
 //! - `chart`, `cells`: the bar chart of a sheet, and the cells of its lines
@@ -35,16 +37,20 @@ mod laws;
 mod percents;
 mod places;
 mod report_page;
+mod report_tree;
 mod scale;
 mod small_directories;
 mod space;
 mod style;
 mod sums;
+mod tree_lines;
+mod tree_marks;
 
 pub use laws::{
     a_box_opens_inside_that_of_its_parent, a_chain_is_its_last_directory,
     a_directory_is_its_boxes_and_its_rest, a_page_shows_each_directory_once, boxes_are_nested,
-    large_files_have_boxes, larger_boxes_come_first,
+    large_files_have_boxes, larger_boxes_come_first, lines_of_a_tree_add_up,
     names_are_never_markup, names_change_no_tag, rows_have_the_colours_of_their_extensions,
 };
 pub use report_page::page;
+pub use report_tree::tree;

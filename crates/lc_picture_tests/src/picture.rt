@@ -4,3 +4,4 @@
 mod faults;
 mod pages;
 mod reports;
+mod trees;
