@@ -272,21 +272,21 @@ all_named depth c all g = record {
 
 -- a depth asks for directories, which the names of columns without them do not name
 pub undirected : (text : List ℕ) (depth : Option ℕ) (c : Columns) → IsColumnsText text (unwrap_or depth 1) c → is_some depth ≡ true
-    → is_some c.dir ≡ false → (by : Option Columns) → AreColumnsBy (Some text) depth by → ⊥
-undirected text depth c are some none None by = absurd by
-undirected text None c are some none (Some d) by = absurd (cc)
-undirected text (Some n) c are some none (Some d) by =
+    → is_some c.dir ≡ false → (is_tree : Bool) (by : Option Columns) → AreColumnsBy is_tree (Some text) depth by → ⊥
+undirected text depth c are some none is_tree None by = absurd by
+undirected text None c are some none is_tree (Some d) by = absurd (cc)
+undirected text (Some n) c are some none is_tree (Some d) by =
     let one : once_if (is_some d.dir) ≡ 1 = ap once_if by.cuts in
     let zero : once_if (is_some c.dir) ≡ 0 = ap once_if none in
     absurd (omega (arith, by.named.each Dir refl, are.each Dir refl, one, zero))
 
 -- directories are cut to a number of segments that is within the limit of what was given, or one
-pub depth_within : (depth : Option ℕ) (columns : Option Columns) (by : Option (List ℕ)) → AreColumnsBy by depth columns
-    → 1 ≤ unwrap_or depth 1 → unwrap_or depth 1 ≤ max_depth
+pub depth_within : (is_tree : Bool) (depth : Option ℕ) (columns : Option Columns) (by : Option (List ℕ))
+    → AreColumnsBy is_tree by depth columns → 1 ≤ unwrap_or depth 1 → unwrap_or depth 1 ≤ max_depth
     → IfSome columns (λ c. IfSome c.dir (λ segments. (1 ≤ segments) × (segments ≤ max_depth)))
-depth_within depth None by are some within = tt
-depth_within depth (Some c) None are some within = absurd are
-depth_within depth (Some c) (Some text) are some within = go c.dir are.named.cut
+depth_within is_tree depth None by are some within = tt
+depth_within is_tree depth (Some c) None are some within = absurd are
+depth_within is_tree depth (Some c) (Some text) are some within = go c.dir are.named.cut
   where
     go : (dir : Option ℕ) → IfSome dir (λ segments. segments ≡ unwrap_or depth 1)
         → IfSome dir (λ segments. (1 ≤ segments) × (segments ≤ max_depth))

@@ -4,7 +4,7 @@ use Rattle.std.specs.{Option.option_map_or, Str.bytes_eq}
 use Rattle.clap.specs.Walk.{is_empty}
 use Rattle.lc_sheet.specs.Keys.{are_all}
 use Rattle.lc_sheet.specs.declared.table_options.{Columns.Columns, Format.TheVariants.{Table, Csv, Markdown}}
-use Rattle.lc_sheet.specs.declared.table_options.Output.{Output, TheVariants.{Text, Picture, Paths}}
+use Rattle.lc_sheet.specs.declared.table_options.Output.{Output, TheVariants.{Text, Picture, Tree, Paths}}
 use Rattle.lc_sheet.specs.declared.table_options.Order.{Order, TheVariants.Name}
 use Rattle.lc_arguments.specs.declared.{count.CountRequest.CountRequest, diff.DiffRequest.DiffRequest, sum.SumRequest.SumRequest}
 use Rattle.lc_arguments.specs.declared.{walk_request.WalkRequest.WalkRequest, table.TableRequest.TableRequest}
@@ -22,10 +22,11 @@ has_one_kind (Some (Text Csv)) = true
 has_one_kind (Some Paths) = true
 has_one_kind _ = false
 
--- `--format html` was typed, which names a picture
-abbrev pub is_picture : Option Output → Bool
-is_picture (Some Picture) = true
-is_picture _ = false
+-- `--format html` or `--format tree` was typed: a picture or a tree, which draw boxes of directories and files
+abbrev pub draws_boxes : Option Output → Bool
+draws_boxes (Some Picture) = true
+draws_boxes (Some Tree) = true
+draws_boxes _ = false
 
 -- `--format paths` was typed
 abbrev pub is_paths : Option Output → Bool
@@ -34,7 +35,7 @@ is_paths _ = false
 
 -- the format can show how two sides differ
 abbrev pub shows_differences : Option Output → Bool
-shows_differences format = not (is_picture format || is_paths format)
+shows_differences format = not (draws_boxes format || is_paths format)
 
 -- `--sort name` was typed: the order that sorts by no number
 abbrev pub is_by_name : Option Order → Bool
@@ -50,18 +51,18 @@ narrows (Some by) = not (are_all by)
 abbrev pub asks_for_rows : TableRequest → Bool → Bool
 asks_for_rows table left_out = table.files || left_out || is_some table.top || narrows table.by
 
--- the options of a picture can be combined: it lists nothing, shows all rows of a report, and is not sorted by name
-abbrev pub picture_fits : TableRequest → Bool → Bool
-picture_fits table left_out =
-    not (is_picture table.format && asks_for_rows table left_out) && not (is_picture table.format && is_by_name table.sort)
+-- the options of a picture or a tree can be combined: it lists nothing, shows all rows of a report, and is not sorted by name
+abbrev pub boxes_fit : TableRequest → Bool → Bool
+boxes_fit table left_out =
+    not (draws_boxes table.format && asks_for_rows table left_out) && not (draws_boxes table.format && is_by_name table.sort)
 
 -- shares need a format that can show them; csv and paths list files or skipped entries, but not both; paths are in no rows, so they need no
--- columns; and the options of a picture can be combined
+-- columns; and the options of a picture or a tree can be combined
 abbrev pub table_fits : TableRequest → Bool → Bool
 table_fits table left_out =
     (not table.share || shows_shares table.format)
     && (not (table.files && left_out && has_one_kind table.format)
-    && (not (is_paths table.format && is_some table.by) && picture_fits table left_out))
+    && (not (is_paths table.format && is_some table.by) && boxes_fit table left_out))
 
 -- `--only` or `--only-from` chooses paths, which are relative to one directory
 abbrev pub asks_for_paths : WalkRequest → Bool

@@ -1,5 +1,5 @@
 -- What an error of clap becomes.
-use Rattle.std.specs.{Prelude.{◌≡◌, ◌≢◌, ◌⊎◌, ℕ, true, false, List, [], map, codes, Result, Ok, Err, Option, option_map}, Global.Vec}
+use Rattle.std.specs.{Prelude.{◌≡◌, ◌≢◌, ◌⊎◌, ℕ, Bool, true, false, List, [], map, codes, Result, Ok, Err, Option, option_map}, Global.Vec}
 use Rattle.std.specs.{List.list_any, Borrow.Bor}
 use Rattle.clap.specs.{Faults.fault_of, Simple.{App, matches_of}, Values.kind_of, declared.error.Error.Error}
 use Rattle.clap.specs.{declared.{error.kind.ErrorKind.TheVariants.OutOfMemory, parser.matches.Found.Found}, Walk.{Row, rows_of}}
@@ -155,9 +155,9 @@ AnswersFormat name = AnswersBy (λ (format : Option Output). option_map output_w
 abbrev pub AnswersSort : Option (List ℕ) → Result (Option Order) ParseExit → Type 0
 AnswersSort name = AnswersBy (λ (sort : Option Order). option_map order_word sort ≡ name)
 
--- the columns that the text of `--by` names, with the depth of `--depth`
-abbrev pub AnswersColumns : Option (List ℕ) → Option ℕ → Result (Option Columns) ParseExit → Type 0
-AnswersColumns by depth = AnswersBy (λ (columns : Option Columns). AreColumnsBy by depth columns)
+-- the columns that the text of `--by` names, with the depth of `--depth`, for a tree or for another output
+abbrev pub AnswersColumns : Bool → Option (List ℕ) → Option ℕ → Result (Option Columns) ParseExit → Type 0
+AnswersColumns is_tree by depth = AnswersBy (λ (columns : Option Columns). AreColumnsBy is_tree by depth columns)
 
 -- the table that the values of `--format`, `--by`, `--depth` and `--sort` request
 abbrev pub AnswersTable : Option (List ℕ) → Option (List ℕ) → Option ℕ → Option (List ℕ) → Result TableRequest ParseExit → Type 0

@@ -22,7 +22,7 @@ pub record AreCutsReadWithin (found : Found) : Type 0 where
   pub depth : IsReadWithin found (codes "depth") 1 max_depth
   pub top : IsReadWithin found (codes "top") 1 max_top
 
--- the values of the options with numbers that were read are within their limits
+-- each number that was read as the value of an option is within the limits of the option
 pub record AreReadWithin (found : Found) : Type 0 where
   pub threads : IsReadWithin found (codes "threads") 1 max_threads
   pub max_dirs : IsReadWithin found (codes "max-dirs") 1 max_dirs

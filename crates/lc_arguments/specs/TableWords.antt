@@ -1,11 +1,11 @@
 -- The table that the words of a command line request.
 use Rattle.std.specs.Prelude.{◌≡◌, ◌≤◌, ◌<◌, ◌⊎◌, ◌||◌, ◌+◌, ℕ, Bool, true, false, cond, List, [], length, filter, Option, Some, None}
 use Rattle.std.specs.Prelude.{option_map, unwrap_or}
-use Rattle.std.specs.{Bool.MatchBool, Prelude.{is_some, codes, IfSome}, List.{list_all, list_any}, Str.bytes_eq}
+use Rattle.std.specs.{Bool.MatchBool, Prelude.{is_none, is_some, codes, IfSome}, Option.option_map_or, List.{list_all, list_any}, Str.bytes_eq}
 use Rattle.lc_glob.specs.Pieces.{pieces_of}
 use Rattle.lc_sheet.specs.{Keys.{has_key, key_name, keys}, declared.key.Key.{Key, TheVariants.Attribute}}
 use Rattle.lc_sheet.specs.declared.table_options.{Columns.Columns, Format.{Format, TheVariants.{Tsv, Table, Json, Csv, Markdown}}}
-use Rattle.lc_sheet.specs.declared.table_options.Output.{Output, TheVariants.{Text, Picture, Paths}}
+use Rattle.lc_sheet.specs.declared.table_options.Output.{Output, TheVariants.{Text, Picture, Tree, Paths}}
 use Rattle.lc_sheet.specs.declared.table_options.{Order.{Order, TheVariants.{Name, Largest}}, TableOptions.TableOptions}
 use Rattle.lc_sheet.specs.declared.column.Number.{Number, TheVariants.{Files, Lines, Blank, Bytes}}
 use Rattle.lc_arguments.specs.AttributeWords.{how_often, languages_in, names_attribute, names_column}
@@ -19,6 +19,7 @@ output_word (Text Json) = codes "json"
 output_word (Text Csv) = codes "csv"
 output_word (Text Markdown) = codes "markdown"
 output_word Picture = codes "html"
+output_word Tree = codes "tree"
 output_word Paths = codes "paths"
 
 abbrev pub sort_word : Number → List ℕ
@@ -84,17 +85,22 @@ pub record AreColumnsNamed (text : List ℕ) (depth : Option ℕ) (c : Columns) 
   pub named : IsColumnsText text (unwrap_or depth 1) c
   pub cuts : IfSome depth (λ _. is_some c.dir ≡ true)
 
--- the columns that `--by` and `--depth` request, if `--by` was typed
-abbrev pub AreColumnsBy : Option (List ℕ) → Option ℕ → Option Columns → Type 0
-AreColumnsBy None depth None = depth ≡ None
-AreColumnsBy (Some text) depth (Some c) = AreColumnsNamed text depth c
-AreColumnsBy None depth (Some c) = ⊥
-AreColumnsBy (Some text) depth None = ⊥
+-- the columns that `--by` and `--depth` request, if `--by` was typed. Without `--by`, only the levels of a tree have a depth
+abbrev pub AreColumnsBy : Bool → Option (List ℕ) → Option ℕ → Option Columns → Type 0
+AreColumnsBy is_tree None depth None = is_tree || is_none depth ≡ true
+AreColumnsBy is_tree (Some text) depth (Some c) = AreColumnsNamed text depth c
+AreColumnsBy is_tree None depth (Some c) = ⊥
+AreColumnsBy is_tree (Some text) depth None = ⊥
+
+-- `--format tree` was typed
+abbrev pub names_tree : Option (List ℕ) → Bool
+names_tree format = option_map_or (λ word. bytes_eq word (codes "tree")) format false
 
 -- the table that the texts of `--format`, `--by` and `--sort` and the number of `--depth` request, each only if it was typed
 pub record IsTableBy (format by : Option (List ℕ)) (depth : Option ℕ) (sort : Option (List ℕ)) (s : TableRequest) : Type 0 where
   pub format_is : option_map output_word s.format ≡ format
-  pub by_is : AreColumnsBy by depth s.by
+  pub by_is : AreColumnsBy (names_tree format) by depth s.by
+  pub levels_is : s.levels ≡ unwrap_or depth 2
   pub sort_is : option_map order_word s.sort ≡ sort
 
 -- the output: the named one; if none is named, a text in the format `Table` for a table with shares, and otherwise in `other`
@@ -124,11 +130,16 @@ order_in output s = unwrap_or s.sort (default_order output s.top)
 abbrev pub lists_files : TableRequest → Bool
 lists_files s = s.files || is_paths s.format
 
+-- the columns of an output: those that are named, or else these; the directories of its levels for a tree
+abbrev pub columns_in : Output → Columns → TableRequest → Columns
+columns_in Tree columns s = record { dir = Some s.levels; attributes = 0; ext = false; text = false; eol = false }
+columns_in _ columns s = unwrap_or s.by columns
+
 -- the options of a table: if no format is named and no shares are shown, the format is `other`; if no columns are named, these columns
 abbrev pub options_in : Format → Columns → TableRequest → TableOptions
 options_in other columns s = record {
   output = output_in other s;
-  by = unwrap_or s.by columns;
+  by = columns_in (output_in other s) columns s;
   sort = number_of (order_in (output_in other s) s);
   top = s.top;
   files = lists_files s;

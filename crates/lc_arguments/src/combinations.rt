@@ -1,8 +1,8 @@
 //! Options that can't be combined.
 
 ghost use Rattle.std.specs.Prelude.{◌≡◌, ◌&&◌, is_some, not};
-ghost use Rattle.lc_arguments.specs.Combinations.{asks_for_paths, asks_for_rows, diff_fits, fit_together, has_one_kind, is_by_name};
-ghost use Rattle.lc_arguments.specs.Combinations.{is_dash, narrows, null_fits, paths_fit, picture_fits, reads_input_once};
+ghost use Rattle.lc_arguments.specs.Combinations.{asks_for_paths, asks_for_rows, boxes_fit, diff_fits, fit_together, has_one_kind, is_by_name};
+ghost use Rattle.lc_arguments.specs.Combinations.{is_dash, narrows, null_fits, paths_fit, reads_input_once};
 ghost use Rattle.lc_arguments.specs.Combinations.{shows_differences, shows_shares, sum_fits, table_fits, takes_input, walk_fits};
 
 use crate::count::CountRequest;
@@ -66,17 +66,27 @@ fn kinds_misfit(table: TableRequest, left_out: bool) -> Option<&'static str>
     }
 }
 
-/// Returns why the options of a picture can't be combined, or `None` if they can.
-fn picture_misfit(table: TableRequest, left_out: bool) -> Option<&'static str>
-    ensures { is_some result ≡ not (picture_fits table left_out) }
+/// Returns why the options of a picture or a tree can't be combined, or `None` if they can.
+fn boxes_misfit(table: TableRequest, left_out: bool) -> Option<&'static str>
+    ensures { is_some result ≡ not (boxes_fit table left_out) }
 {
-    if table.is_picture() && asks_for_rows(table, left_out) {
-        return Some(
-            "'--format html' draws a tree: no '--files', '--left-out', '--by <COLUMNS>' or '--top <N>'",
-        );
+    if !table.draws_boxes() {
+        return None;
     }
-    if table.is_picture() && is_by_name(table.sort) {
-        return Some("'--format html' draws the column of '--sort': files, lines, blank or bytes");
+    let is_tree = table.format == Some(Output::Tree);
+    if asks_for_rows(table, left_out) {
+        return Some(if is_tree {
+            "'--format tree' draws a tree: no '--files', '--left-out', '--by <COLUMNS>' or '--top <N>'"
+        } else {
+            "'--format html' draws a tree: no '--files', '--left-out', '--by <COLUMNS>' or '--top <N>'"
+        });
+    }
+    if is_by_name(table.sort) {
+        return Some(if is_tree {
+            "'--format tree' draws the column of '--sort': files, lines, blank or bytes"
+        } else {
+            "'--format html' draws the column of '--sort': files, lines, blank or bytes"
+        });
     }
     None
 }
@@ -94,7 +104,7 @@ fn table_misfit(table: TableRequest, left_out: bool) -> Option<&'static str>
     if table.is_paths() && table.by.is_some() {
         return Some("'--format paths' prints no rows, so '--by <COLUMNS>' has no use");
     }
-    picture_misfit(table, left_out)
+    boxes_misfit(table, left_out)
 }
 
 /// Returns why the options that choose files can't be combined, or `None` if they can.
@@ -197,6 +207,7 @@ fn format_misfit(format: Option<Output>) -> Option<&'static str>
 {
     match format {
         Some(Output::Picture) => Some("'--format html' shows no differences"),
+        Some(Output::Tree) => Some("'--format tree' shows no differences"),
         Some(Output::Paths) => Some("'--format paths' shows no differences"),
         _ => None,
     }

@@ -45,7 +45,7 @@ pub(crate) const WHERE: OptionRow = OptionRow {
     ..FLAG
 };
 
-/// The option `--format`, which has all formats of `lc count` except for `html` and `paths`.
+/// The option `--format`, which has all formats of `lc count` except for `html`, `tree` and `paths`.
 pub(crate) const FORMAT: OptionRow = OptionRow {
     name: "format",
     value: "FORMAT",

@@ -44,8 +44,8 @@ from standard input, and answers each path as lc check does.
 
 Exit status:
   0  success
-  1  count, sum, diff, explain: the answer was written, but something could
-     not be read
+  1  count, sum, diff, explain: the answer was written, but something could not
+     be read or printed
   2  usage error
   3  stopped with an error; standard error shows it in one line
   4  count, sum --fail-if-any: a file was counted; diff --fail-if-any: a row
@@ -77,7 +77,8 @@ sums are added. Paths then begin with DIR as you typed it.
 Each row is for the files of one kind:
   dir    the directory, relative to DIR; only with --by dir
   lang   the language, such as C++; - for none; only with --by lang
-  NAME   the state of a Git attribute: set, unset, its value, or - for none;
+  attr:NAME
+         the state of a Git attribute: set, unset, its value, or - for none;
          only with --by attr:NAME
   ext    the extension of the name, with its dot; - for none
   text   the attribute text in .gitattributes: set, unset, auto, other, or -
@@ -90,9 +91,9 @@ Each row is for the files of one kind:
 In table, markdown and json, text and binary are the sums over the files without
 and with a NUL byte. A file without one counts as text, whatever its bytes.
 
-The lines below the rows begin with others (the sums of the rows that --top cuts
-off), total, directories, entries, file, left (a skipped entry, and why) or
-fault (what could not be read). man lc and docs/OUTPUT.md describe each.
+In tsv, the lines below the rows begin with others (the sums of the rows that
+--top cuts off), total, directories, entries, file, left (a skipped entry, and
+why) or fault (what could not be read). man lc and docs/OUTPUT.md describe each.
 
 Exit status:
   0  everything was counted
@@ -138,7 +139,7 @@ paths can be added. It is what is before the first = if no slash is before that:
 ./a=b is a file without a NAME.
 
 Without --by, rows are by those of ext, text and eol that every REPORT has.
---files, --by dir, --format html or paths and a condition on a number need
+--files, --by dir, --format html, tree or paths and a condition on a number need
 reports that were counted with --files, --by attr:NAME and a condition on
 attr:NAME those counted with --files --by attr:NAME, lang those counted with
 --files --by lang, and --left-out those counted with --left-out.
@@ -164,13 +165,14 @@ pub(crate) const DIFF: CommandHelp = CommandHelp {
     after_long: "\
 OLD and NEW are each a directory, which is counted as lc count does, or a report
 that lc sum reads; - is a report on standard input. Options that choose files
-hold for directories; --where holds for both sides.
+hold for directories; --where and --no-binary hold for both sides.
 
-Each row has the old and the new number of files, lines, blank lines and bytes;
-in table and markdown, the new numbers and their changes, and in per cent the
-change of the number that rows are sorted by. A row in which no number changed
-is not printed, except with --all. Paths are compared as they are. Lines that
-were added and lines that were removed within a file are not told apart.
+Each row has the old and the new number of files, lines, blank lines and bytes.
+In table and markdown it has each new number and its change. The change of the
+number that rows are sorted by, or of lines with --sort name, is also shown in
+per cent. A row in which no number changed is not printed, except with --all.
+Paths are compared as they are. Lines that were added and lines that were
+removed within a file are not told apart.
 
 Exit status:
   0  both sides were read, whether or not they differ
@@ -201,9 +203,11 @@ decides, its pattern, and the path.
   below     a directory above the path is ignored, by the rule shown
   left      lc count skips the path, or a directory above it, for a reason that
             is no rule: git (.git), other (neither file nor directory),
-            attribute:ATTR, or include (a file that no --include matches)
+            attribute:ATTR, or include (no --include matches the file or a
+            directory above it)
   bad       no file or directory can have this path, or it is over 4,096 bytes
-  fault     a directory or rule file on the way could not be read
+  fault     a directory or rule file above the path could not be read: the
+            word of the fault, and as the path that of the directory or file
 
 A path is relative to DIR, wherever lc is started, and need not exist. It may
 begin with ./, as find prints it. A slash at its end means a directory. If there

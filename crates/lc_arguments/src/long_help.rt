@@ -10,22 +10,23 @@ const LONG_HELP: &[(&str, &str, &str)] = &[
         "exclude",
         WHICH_FILES,
         "Skip what PATTERN matches. PATTERN is a line of a .gitignore, relative
-to DIR, and overrides every rule file. !PATTERN includes again. May be
-repeated; the last one that matches decides",
+to DIR, and overrides every rule file. !PATTERN keeps what they
+ignore. May be repeated; the last one that matches decides",
     ),
     (
         "exclude-from",
         WHICH_FILES,
         "Skip what the patterns in FILE match. FILE has the syntax of a
-.gitignore and its patterns are relative to DIR; every .gitignore
-overrides it",
+.gitignore and its patterns are relative to DIR; .git/info/exclude and
+every .gitignore override it",
     ),
     (
         "include",
         WHICH_FILES,
         "Skip files unless PATTERN matches them or a directory above them.
-PATTERN is a line of a .gitignore, relative to DIR. May be repeated;
-one that matches is enough",
+PATTERN is a line of a .gitignore without !, relative to DIR. Rules
+and attributes still skip files. May be repeated; one that matches is
+enough",
     ),
     (
         "no-ignore",
@@ -36,16 +37,16 @@ and .gitattributes still apply, and .git is still skipped",
     (
         "archive",
         WHICH_FILES,
-        "Skip files and directories that have the attribute export-ignore in
-.gitattributes, as git archive does",
+        "Skip files and directories whose attribute export-ignore is set, as
+git archive does",
     ),
     (
         "without",
         WHICH_FILES,
-        "Skip files and directories that have the attribute ATTR in
-.gitattributes, such as linguist-vendored. The line `* ATTR` sets it.
-The line `* ATTR=true` gives it a value, which ATTR=true means. May be
-repeated",
+        "Skip files and directories whose attribute ATTR is set, such as
+linguist-vendored. A line `* ATTR` of .gitattributes sets it; `*
+ATTR=true` gives it a value instead. ATTR=VALUE skips those with
+exactly this value. May be repeated",
     ),
     (
         "attributes-from",
@@ -92,11 +93,13 @@ with the rule or the reason",
     (
         "where",
         WHAT_IS_PRINTED,
-        "Show and sum only files that meet CONDITION, such as ext=.c,.h or
-eol!=lf or 'lines>1000', in quotes. The columns are lang, ext, text,
-eol, attr:NAME, lines, blank and bytes; the operators = and !=, and
-for numbers <, <=, > and >=. May be repeated; all must hold. Skipped
-entries stay",
+        "Show and sum only files that meet CONDITION: a column, an operator and
+values, such as ext=.c,.h or eol!=lf or 'lines>1000', in quotes. The
+columns are lang, ext, text, eol, attr:NAME, lines, blank and bytes;
+the operators = and !=, and for numbers also <, <=, > and >=. For
+lang, ext, text and attr:NAME the value - means that there is none, as
+in ext=-. May be repeated; all must hold. Skipped entries and errors
+stay",
     ),
     (
         "no-binary",
@@ -107,52 +110,62 @@ A file without one counts as text, whatever its bytes",
     (
         "format",
         WHAT_IS_PRINTED,
-        "How to print: table aligns columns for reading and is the default on
-a terminal; tsv separates fields by tabs and is the default
-elsewhere; json is for programs; csv has one kind of record and no
-totals, for databases and spreadsheets; markdown is for a page on
-GitHub; html is a page for a browser with a box for each directory
-that has a thousandth of the lines or more; paths prints the path of
-each counted file, relative to DIR, for other programs, or with
---left-out that of each skipped entry",
+        "How to print: table aligns columns for reading and is the default on a
+terminal; tsv separates fields by tabs and is the default elsewhere;
+json is one object for programs; csv is for databases and
+spreadsheets, without totals: it has only rows, with --files only
+counted files, or with --left-out only skipped entries; markdown is
+for a page on GitHub; html is a page for a browser, with boxes for the
+directories and files that have a thousandth of the lines or more;
+tree draws those that have a hundredth as lines for a terminal; paths
+prints the path of each counted file, relative to DIR, for other
+programs, or with --left-out that of each skipped entry",
     ),
     (
         "by",
         WHAT_IS_PRINTED,
         "Sum rows by some of dir, lang, ext, text, eol and attr:NAME, separated
-by commas. dir is the directory: DIR itself, and each directory right
-under DIR, or as deep as --depth says. lang is the language of the
-file: the value of its attribute linguist-language, or else its
-language in the list that lc languages prints. ext is the extension.
-text is the attribute text. eol is how the lines end. attr:team is the
-state of the Git attribute team; at most 16 attributes",
+by commas. dir is the directory of a file: . for DIR itself, or a
+directory right under DIR with all below it; --depth goes deeper. With
+several DIRs it begins with DIR as you typed it, and --depth counts
+DIR's names too. lang is the language of the file: the value of its
+attribute linguist-language, or else its language in the list that lc
+languages prints. ext is the extension. text is the attribute text.
+eol is how the lines end. attr:team is the state of the Git attribute
+team; at most 16 attributes. Without --by, lc count sums by
+ext,text,eol, and lc sum by those of them that every REPORT has",
     ),
     (
         "depth",
         WHAT_IS_PRINTED,
-        "Cut the directories of --by dir after their first N names, 1 to 256;
-. and .. are no names [default: 1]",
+        "Cut the directories of --by dir after their first N names, 1 to 256; .
+and .. are no names [default: 1]. A row with N names has all files
+below that directory, and one with fewer names has the files right in
+it. With --format tree, lc count and lc sum show N levels below the
+top [default: 2]",
     ),
     (
         "sort",
         WHAT_IS_PRINTED,
         "Sort rows and the lines of --files: by files, lines, blank or bytes,
-largest first, or by name. The default is lines in table, markdown and
-html and with --top, and else name",
+largest first, or by name. html and tree draw this number, so it
+cannot be name. The default is lines in table, markdown, html and tree
+and with --top, and else name",
     ),
     (
         "top",
         WHAT_IS_PRINTED,
-        "Print only the first N rows, with a row `others` for the sums of the
-rest, and the first N lines of --files. Without --sort, lc count and
-lc sum print those with the most lines",
+        "Print only the first N rows and the first N lines of --files. A row
+`others` has the sums of the rows that are cut off, except in csv.
+Without --sort, lc count and lc sum print those with the most lines",
     ),
     (
         "share",
         WHAT_IS_PRINTED,
-        "Show each row's share of the total: of the column of --sort, or of
-lines. The default format is then table; markdown has shares, too. If
-a row is over 80 columns, bars are shorter, or there are none",
+        "Show each row's share of the total in per cent: of the column of
+--sort, or of lines. Only table, which is then the default, and
+markdown have shares. table also has bars, which are shorter or
+dropped where a row would be over 80 columns",
     ),
     (
         "fail-if-any",
@@ -210,21 +223,22 @@ lang or attr:NAME of --by differs",
     (
         "where",
         WHAT_IS_PRINTED,
-        "Compare only files that meet CONDITION, such as ext=.c,.h or eol!=lf
-or 'lines>1000', in quotes. The columns are lang, ext, text, eol,
-attr:NAME, lines, blank and bytes; the operators = and !=, and for
-numbers <, <=, > and >=. May be repeated; all must hold, on each side.
-Then change=added,changed chooses files by what became of them: added,
-changed, removed or same. Reports must list files for that",
+        "Compare only files that meet CONDITION: a column, an operator and
+values, such as ext=.c,.h or eol!=lf or 'lines>1000', in quotes. The
+columns are lang, ext, text, eol, attr:NAME, lines, blank and bytes;
+the operators = and !=, and for numbers also <, <=, > and >=. May be
+repeated; all must hold, on each side. Then change=added,changed
+chooses files by what became of them: added, changed, removed or same.
+For change and for numbers, reports must list files",
     ),
     (
         "format",
         WHAT_IS_PRINTED,
-        "How to print: table aligns columns for reading and is the default on
-a terminal; tsv separates fields by tabs and is the default
-elsewhere; json is for programs; csv has one kind of record and no
-totals, for databases and spreadsheets; markdown is for a page on
-GitHub",
+        "How to print: table aligns columns for reading and is the default on a
+terminal; tsv separates fields by tabs and is the default elsewhere;
+json is one object for programs; csv is for databases and
+spreadsheets, without totals: it has only rows, or with --files only
+files; markdown is for a page on GitHub",
     ),
     (
         "by",

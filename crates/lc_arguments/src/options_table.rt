@@ -186,7 +186,7 @@ const OPTIONS: &[OptionRow] = &[
         kind: Kind::Text,
         of: PRINTED,
         heading: WHAT_IS_PRINTED,
-        help: "tsv, table, json, csv, markdown, html or paths",
+        help: "tsv, table, json, csv, markdown, html, tree or paths",
         brief: "How to print",
         example: "lc count --format table .",
         completes: Completes::Meanings(&[
@@ -196,6 +196,7 @@ const OPTIONS: &[OptionRow] = &[
             ("csv", "Records of one kind"),
             ("markdown", "Tables for a page"),
             ("html", "A picture for a browser"),
+            ("tree", "Directories as a tree"),
             ("paths", "Paths for xargs"),
         ]),
         ..FLAG
@@ -218,8 +219,8 @@ const OPTIONS: &[OptionRow] = &[
         kind: Kind::Number(MAX_DEPTH),
         of: TABLES,
         heading: WHAT_IS_PRINTED,
-        help: "Cut directories of --by dir after N names [default: 1]",
-        brief: "Cut the directories of --by dir after so many names",
+        help: "Depth of --by dir [default: 1], of a tree [default: 2]",
+        brief: "Cut the directories of rows, or of a tree, at this depth",
         example: "lc count --by dir --depth 2 .",
         completes: Completes::Words(&["1", "2", "3"]),
         ..FLAG

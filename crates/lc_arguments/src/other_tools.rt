@@ -24,6 +24,8 @@ const WORDS: &[(&str, &str)] = &[
     ("markdown", "lc count --format markdown ."),
     ("--html", "lc count --format html ."),
     ("html", "lc count --format html ."),
+    ("--tree", "lc count --format tree ."),
+    ("tree", "lc count --format tree ."),
     ("--table", "lc count --format table ."),
     ("table", "lc count --format table ."),
     ("--tsv", "lc count --format tsv ."),

@@ -109,8 +109,8 @@ pub fn lines_text(alloc: Global, lines: &[&str]) -> Result<Vec<u8>, AllocError>
     Ok(text)
 }
 
-/// Returns whether the values of an option are short enough. Patterns must fit into one ignore file, and conditions may test few
-/// attributes.
+/// Returns whether the values of an option are short enough. Patterns must fit into one ignore file, and conditions may test at most
+/// `MAX_TESTED` attributes.
 fn are_short(alloc: Global, option: Repeated, values: &[&str]) -> Result<bool, AllocError>
     ensures { IfOk result (λ short. short ≡ are_short option (map (λ value. value.now) values.now)) }
 {

@@ -8,12 +8,12 @@ ghost use Rattle.lc_sheet.specs.declared.table_options.Columns.{Columns as Colum
 ghost use Rattle.lc_sheet.specs.declared.table_options.Order.{Order as OrderModel};
 ghost use Rattle.lc_sheet.specs.declared.table_options.Output.{Output as OutputModel};
 ghost use Rattle.lc_sheet.specs.Keys.{key_name};
-ghost use Rattle.lc_arguments.specs.Combinations.{is_paths, is_picture};
+ghost use Rattle.lc_arguments.specs.Combinations.{draws_boxes, is_paths};
 ghost use Rattle.lc_arguments.specs.Explained.{AnswersColumns, AnswersFormat, AnswersSort, AnswersTable, AnswersTableIn, IsRefusal};
 ghost use Rattle.lc_arguments.specs.TableWords.{IsColumnsText, IsKeyAfter, IsNoKeyAfter, default_order, is_fixed, is_for_reading};
 ghost use Rattle.lc_arguments.specs.TableWords.{is_key_name, max_columns, number_of};
 ghost use Rattle.lc_arguments.specs.Texts.{comma};
-ghost use Rattle.lc_arguments.specs.TableWords.{lists_files, options_in, order_in, order_word, output_in, output_word};
+ghost use Rattle.lc_arguments.specs.TableWords.{columns_in, lists_files, names_tree, options_in, order_in, order_word, output_in, output_word};
 
 use crate::attributes::{is_named, names_column};
 use crate::numbers::Cuts;
@@ -41,6 +41,8 @@ pub struct TableRequest {
     pub files: bool,
     /// Show each row's share of the total.
     pub share: bool,
+    /// The number of levels of directories in a tree: the value of `--depth`, or 2.
+    pub levels: u32,
 }
 
 /// Returns whether a text is human-readable. Rows in such a text begin with the largest, unless `--sort` names another order.
@@ -80,11 +82,11 @@ impl TableRequest {
         self.format.unwrap_or(Output::Text(default))
     }
 
-    /// Returns whether `--format` names a picture.
-    pub fn is_picture(self) -> bool
-        ensures { result ≡ is_picture self.format }
+    /// Returns whether `--format` names a picture or a tree, which draw boxes of directories and files.
+    pub fn draws_boxes(self) -> bool
+        ensures { result ≡ draws_boxes self.format }
     {
-        matches!(self.format, Some(Output::Picture))
+        matches!(self.format, Some(Output::Picture | Output::Tree))
     }
 
     /// Returns whether `--format` names paths.
@@ -108,8 +110,21 @@ impl TableRequest {
         self.sort.unwrap_or(default_order(output, self.top))
     }
 
+    /// Returns the columns of an output: those of the request, or `columns` if it names none. A tree has the directories of its levels.
+    fn columns_in(self, output: Output, columns: Columns) -> Columns
+        ensures { result ≡ columns_in output columns self }
+    {
+        match output {
+            Output::Tree => Columns {
+                dir: Some(self.levels),
+                ..Columns::NONE
+            },
+            _ => self.by.unwrap_or(columns),
+        }
+    }
+
     /// Returns the options of the table. If the request names no format, the format is `Table` if shares are shown, and `other` if not. If
-    /// the request names no columns, the columns are `columns`. If the request names no order, rows and files are sorted by lines if
+    /// the request names no columns, the columns are `columns`; a tree is grouped by directories. If the request names no order, rows and files are sorted by lines if
     /// `--top` is used or the format is `Table` or `Markdown`, and otherwise by name.
     pub fn options(self, other: Format, columns: Columns) -> TableOptions
         ensures { result ≡ options_in other columns self }
@@ -117,7 +132,7 @@ impl TableRequest {
         let output = self.output(other);
         TableOptions {
             output,
-            by: self.by.unwrap_or(columns),
+            by: self.columns_in(output, columns),
             sort: number_of(self.order_in(output)),
             top: self.top,
             files: self.lists_files(),
@@ -137,6 +152,7 @@ fn output_named(name: &str) -> Option<Output>
         "csv" => Some(Output::Text(Format::Csv)),
         "markdown" => Some(Output::Text(Format::Markdown)),
         "html" => Some(Output::Picture),
+        "tree" => Some(Output::Tree),
         "paths" => Some(Output::Paths),
         _ => None,
     }
@@ -229,25 +245,39 @@ fn format_of(alloc: Global, name: Option<&str>) -> Result<Option<Output>, ParseE
     }
 }
 
-/// Makes the refusal of `--depth` without `--by dir`.
+/// Returns whether a value of `--format` names a tree.
+fn names_tree(format: Option<&str>) -> bool
+    ensures { result ≡ names_tree (option_map (λ s. s.now) format.entry) }
+{
+    match format {
+        None => false,
+        Some(word) => word == "tree",
+    }
+}
+
+/// Makes the refusal of `--depth` without `--by dir` and without `--format tree`.
 fn undirected(alloc: Global) -> ParseExit
     ensures { IsRefusal result }
 {
-    unfit(alloc, "'--depth <N>' needs '--by dir'")
+    unfit(
+        alloc,
+        "'--depth <N>' needs '--by dir', or in lc count and lc sum '--format tree'",
+    )
 }
 
-/// Reads the values of `--by` and `--depth`.
+/// Reads the values of `--by` and `--depth`. Without `--by`, only the levels of a tree have a depth.
 fn columns_of(
     alloc: Global,
+    is_tree: bool,
     names: Option<&str>,
     depth: Option<u32>,
 ) -> Result<Option<Columns>, ParseExit>
-    ensures { AnswersColumns (option_map (λ s. s.now) names.entry) depth result }
+    ensures { AnswersColumns is_tree (option_map (λ s. s.now) names.entry) depth result }
 {
     let Some(names) = names else {
         return match depth {
-            None => Ok(None),
-            Some(_) => Err(undirected(alloc)),
+            Some(_) if !is_tree => Err(undirected(alloc)),
+            _ => Ok(None),
         };
     };
     let Some(columns) = columns_named(names, depth.unwrap_or(1)) else {
@@ -288,11 +318,12 @@ fn table_of(
     ensures { AnswersTable (option_map (λ s. s.now) format.entry) (option_map (λ s. s.now) by.entry) depth
         (option_map (λ s. s.now) sort.entry) result }
 {
+    let is_tree = names_tree(format);
     let format = match format_of(alloc, format) {
         Ok(format) => format,
         Err(no) => return Err(no),
     };
-    let by = match columns_of(alloc, by, depth) {
+    let by = match columns_of(alloc, is_tree, by, depth) {
         Ok(by) => by,
         Err(no) => return Err(no),
     };
@@ -307,6 +338,7 @@ fn table_of(
         top: None,
         files: false,
         share: false,
+        levels: depth.unwrap_or(2),
     })
 }
 

@@ -96,6 +96,10 @@ const REFUSED: &[Case] = &[
         "refused: error: '--format html' shows no differences\n",
     ),
     (
+        "diff --format tree a b",
+        "refused: error: '--format tree' shows no differences\n",
+    ),
+    (
         "diff --format paths a b",
         "refused: error: '--format paths' shows no differences\n",
     ),

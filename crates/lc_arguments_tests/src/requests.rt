@@ -61,6 +61,10 @@ const COUNTS: &[Case] = &[
         "count .: 4 threads, 65536 directories, Picture by no columns sorted by Largest(Bytes)",
     ),
     (
+        "count --format tree --depth 3 .",
+        "count .: 4 threads, 65536 directories, Tree of 3 levels by no columns",
+    ),
+    (
         "count --depth 256 --by dir --format csv .",
         "count .: 4 threads, 65536 directories, Text(Csv) by dir to 256",
     ),
@@ -281,12 +285,12 @@ const EXITS: &[Case] = &[
     (
         "count --format md .",
         "refused: error: invalid value 'md' for '--format <FORMAT>'\n  [possible values: tsv, table, json, csv, markdown, \
-         html, paths]\n\n  tip: write '--format markdown'\n",
+         html, tree, paths]\n\n  tip: write '--format markdown'\n",
     ),
     (
         "count --format jsno .",
         "refused: error: invalid value 'jsno' for '--format <FORMAT>'\n  [possible values: tsv, table, json, csv, markdown, \
-         html, paths]\n\n  tip: write '--format json'\n",
+         html, tree, paths]\n\n  tip: write '--format json'\n",
     ),
     (
         "count --by",
@@ -295,11 +299,23 @@ const EXITS: &[Case] = &[
     ),
     (
         "count --format xml .",
-        "refused: error: invalid value 'xml' for '--format <FORMAT>'\n  [possible values: tsv, table, json, csv, markdown, html, paths]",
+        "refused: error: invalid value 'xml' for '--format <FORMAT>'\n  [possible values: tsv, table, json, csv, markdown, html, tree, paths]",
     ),
     (
         "count --format html --by ext .",
         "refused: error: '--format html' draws a tree: no '--files', '--left-out', '--by <COLUMNS>' or '--top <N>'",
+    ),
+    (
+        "count --format tree --by dir --depth 1 .",
+        "refused: error: '--format tree' draws a tree: no '--files', '--left-out', '--by <COLUMNS>' or '--top <N>'",
+    ),
+    (
+        "count --format tree --sort name .",
+        "refused: error: '--format tree' draws the column of '--sort': files, lines, blank or bytes\n",
+    ),
+    (
+        "count --format html --depth 1 .",
+        "refused: error: '--depth <N>' needs '--by dir', or in lc count and lc sum '--format tree'\n",
     ),
     (
         "count --only /src .",

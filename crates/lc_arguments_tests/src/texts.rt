@@ -4,7 +4,7 @@ use lc_arguments::{
     CheckRequest, CountRequest, DiffRequest, ExplainRequest, FilterRequest, ParseExit, Request,
     SumRequest, TableRequest, WalkRequest,
 };
-use lc_sheet::{ChangeKinds, Columns, REPORT_KEYS};
+use lc_sheet::{ChangeKinds, Columns, Output, REPORT_KEYS};
 use std::alloc::{AllocError, Global};
 use std::process::Abort;
 
@@ -53,6 +53,7 @@ fn push_columns(text: &mut String, by: Option<Columns>) -> Result<(), AllocError
 
 fn push_table(text: &mut String, table: TableRequest) -> Result<(), AllocError> {
     match table.format {
+        Some(Output::Tree) => write!(text, "Tree of {} levels by", table.levels)?,
         Some(format) => write!(text, "{format:?} by")?,
         None => text.push_str("no format by")?,
     }

@@ -43,7 +43,12 @@ returns c = λ are.
       walk = c.in_ok-walk.ensures numbers;
       table = record {
         within = table.within;
-        named = record { format_is = table.named.format_is; by_is = table.named.by_is; sort_is = table.named.sort_is };
+        named = record {
+          format_is = table.named.format_is;
+          by_is = table.named.by_is;
+          levels_is = table.named.levels_is;
+          sort_is = table.named.sort_is;
+        };
         top = table.top;
         files = table.files;
       };

@@ -9,4 +9,4 @@ returns-then-is_none c =
     rw c.in-Some.is (refused_for _ c.undirected-then-is_none.result c.undirected-then-is_none.ensures
     (undirected c.in-Some.names.now c.args.depth columns
     (subst (λ (depth : ℕ). IsColumnsText c.in-Some.names.now depth columns) c.unwrap_or.ensures c.in-Some-columns_named.ensures)
-    (sym c.is_some.ensures ∙ c.if-is_some.true) (c.is_none.ensures ∙ ap not c.if-is_none.true)))
+    (sym c.is_some.ensures ∙ c.if-is_some.true) (c.is_none.ensures ∙ ap not c.if-is_none.true) c.args.is_tree))

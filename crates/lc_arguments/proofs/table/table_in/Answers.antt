@@ -1,7 +1,8 @@
 use Rattle.std.proofs.Common.{ℕ, codes, refl, subst}
 use Rattle.std.specs.Prelude.{Option}
-use Rattle.clap.specs.{Matches.found_of, Walk.rows_of}
-use Rattle.lc_arguments.specs.{Words.{AsksNoTable, IsTableAt}, ReadNumbers.AreCutsIn, declared.table.TableRequest.TableRequest}
+use Rattle.clap.specs.{Matches.found_of, Walk.{first_of, rows_of}}
+use Rattle.lc_arguments.specs.{ReadNumbers.AreCutsIn, TableWords.names_tree, Words.{AsksNoTable, IsTableAt}}
+use Rattle.lc_arguments.specs.declared.table.TableRequest.{TableRequest}
 use Rattle.lc_arguments.proofs.{ColumnNames.depth_within, Misnaming.{answers_table_as, refused_with}, WordFaults.{flag_of, text_of}}
 use Rattle.lc_arguments.proofs.table.table_in.Goals as goal
 
@@ -18,8 +19,8 @@ returns-in-Ok c = λ are.
     let named = subst (λ (depth : Option ℕ). IsTableAt rows depth table) are.depth at in
     record {
       plain = record {
-        within = depth_within cuts.depth table.by _ at.by_is are.some_depth are.within_depth;
-        named = record { format_is = named.format_is; by_is = named.by_is; sort_is = named.sort_is };
+        within = depth_within (names_tree (first_of (codes "format") rows)) cuts.depth table.by _ at.by_is are.some_depth are.within_depth;
+        named = record { format_is = named.format_is; by_is = named.by_is; levels_is = named.levels_is; sort_is = named.sort_is };
         top = are.top;
         files = flag_of rows f (codes "files") c.get_flag.result refl c.get_flag.ensures.value c.get_flag.ensures.other;
       };
