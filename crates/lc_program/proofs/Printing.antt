@@ -5,18 +5,18 @@ use Rattle.lc_arguments.specs.declared.{count.CountRequest.CountRequest, sum.Sum
 use Rattle.lc_io.specs.declared.{printing.PrintFault.PrintFault, source.Failed.Failed}
 use Rattle.lc_program.specs.{Causes.print_cause, Counts.{FindsAsked, FindsNoneAsked, MayWalk, Prints, counts_shown, names_of}}
 use Rattle.lc_program.specs.{Finds.FindsFor, ReportTexts.{Showing, showing}, Runs.AnswersTable, Sums.{PrintsSum, sums_shown}}
-use Rattle.lc_program.specs.Systems.{SystemMay}
+use Rattle.lc_program.specs.{Headings.HasTitle, Systems.SystemMay}
 use Rattle.lc_program.specs.{WalkRequests.columns_of, declared.{cause.Cause.Cause, runs.Printed.Printed}}
 use Rattle.lc_sheet.specs.{Conditions.ConditionModel, declared.table_options.{Format.Format, TableOptions.TableOptions}}
 use Rattle.lc_text.specs.declared.lines.PathEnd.{PathEnd}
 use Rattle.lc_walk.specs.declared.{options.Options.Options, report.Report.Report}
 
 -- how a report is shown, by what is equal to it
-pub same_showing : (counted named : List ℕ) (conditions kept : List ConditionModel) (table asked : TableOptions)
-    (attributes columns : List (List ℕ)) (end ended : PathEnd) → counted ≡ named → conditions ≡ kept → table ≡ asked
+pub same_showing : (title named chosen words : List ℕ) (conditions kept : List ConditionModel) (table asked : TableOptions)
+    (attributes columns : List (List ℕ)) (end ended : PathEnd) → title ≡ named → chosen ≡ words → conditions ≡ kept → table ≡ asked
     → attributes ≡ columns → end ≡ ended
-    → showing counted conditions table attributes end ≡ showing named kept asked columns ended
-same_showing counted named conditions kept table asked attributes columns end ended a b c d e = rw (a, b, c, d, e) refl
+    → showing title chosen conditions table attributes end ≡ showing named words kept asked columns ended
+same_showing title named chosen words conditions kept table asked attributes columns end ended a w b c d e = rw (a, w, b, c, d, e) refl
 
 module _ (may : SystemMay) {O : Type 0} (may_take : O → List ℕ → Result ℕ Failed → O → Type 0) (other : Format) (c : CountRequest)
     (o : Options) where
@@ -33,13 +33,13 @@ module _ (may : SystemMay) {O : Type 0} (may_take : O → List ℕ → Result �
       inl (subst (FindsNoneAsked may may_take other c o) (sym is) none, refl)
 
   -- the table of what was found was not written, or not whole
-  pub prints_stopped : (answer : Result Printed Cause) (r left : Report) (fault : PrintFault) (out wrote : O) (s : Showing)
-      → IsErrAnd answer (λ cause. cause ≡ print_cause fault)
-      → FindsAsked may may_take other c o r → s ≡ counts_shown may may_take other c
+  pub prints_stopped : (answer : Result Printed Cause) (title : List ℕ) (r left : Report) (fault : PrintFault) (out wrote : O)
+      (s : Showing) → IsErrAnd answer (λ cause. cause ≡ print_cause fault) → HasTitle may.stand c title
+      → FindsAsked may may_take other c o r → s ≡ counts_shown may may_take other c title
       → AnswersTable may_take s r left out (Err fault) wrote → Prints may may_take other c o out answer wrote
-  prints_stopped (Ok printed) r left fault out wrote s is finds same stopped = absurd is
-  prints_stopped (Err cause) r left fault out wrote s is finds same stopped =
-      inr (r, left, fault, finds, is, subst (λ x. AnswersTable may_take x r left out (Err fault) wrote) same stopped)
+  prints_stopped (Ok printed) title r left fault out wrote s is titled finds same stopped = absurd is
+  prints_stopped (Err cause) title r left fault out wrote s is titled finds same stopped =
+      inr (title, titled, (r, left, fault, finds, is, subst (λ x. AnswersTable may_take x r left out (Err fault) wrote) same stopped))
 
 -- the table of a sum was not written, or not whole
 pub sum_stopped : {O : Type 0} (may_take : O → List ℕ → Result ℕ Failed → O → Type 0) (other : Format) (c : SumRequest) (sum : Report)

@@ -1,10 +1,10 @@
 -- How a count is answered, by what was read and written.
-use Rattle.std.specs.Prelude.{◌≡◌, ◌⊎◌, ◌||◌, ℕ, List, [], ◌∷◌, ◌++◌, flat_map, map, Result, Ok, Err, unwrap_or}
-use Rattle.lc_arguments.specs.{Combinations.is_picture, TableWords.{lists_files, options_in}, declared.count.CountRequest.CountRequest}
+use Rattle.std.specs.Prelude.{◌≡◌, ◌⊎◌, ◌||◌, ℕ, List, map, Result, Ok, Err, unwrap_or}
+use Rattle.lc_arguments.specs.{Combinations.draws_boxes, TableWords.{lists_files, options_in}, declared.count.CountRequest.CountRequest}
 use Rattle.lc_io.specs.{Reads.Answer, declared.{source.Failed.Failed, printing.PrintFault.PrintFault}}
 use Rattle.lc_program.specs.{Finds.{FindsFor, FindsNoneFor}, Nested.{AreApart, AreNested}, Runs.AnswersTable, Causes.print_cause}
 use Rattle.lc_program.specs.{PathLists.emptied_line, Replies.{IsReplyWith, Reply}, ReportTexts.{Showing, showing}, Styles.end_for}
-use Rattle.lc_program.specs.Systems.{SystemMay}
+use Rattle.lc_program.specs.{Headings.{HasTitle, chosen_in}, Systems.SystemMay}
 use Rattle.lc_program.specs.WalkRequests.{IsPrepared, IsUnprepared, columns_of, entered_by, named_in}
 use Rattle.lc_program.specs.declared.{answered.Answered.TheVariants.Counted, cause.Cause.{Cause, TheVariants.Memory}, runs.Printed.Printed}
 use Rattle.lc_sheet.specs.{Conditions.needs_files, Keys.are_of_files, declared.table_options.Format.Format}
@@ -16,23 +16,11 @@ use Rattle.lc_walk.specs.AllColumns.{all_columns}
 abbrev pub names_of : CountRequest → List (List ℕ)
 names_of c = map (λ directory. directory.now) c.directories.items
 
--- names, each after a space
-abbrev pub after_spaces : List (List ℕ) → List ℕ
-after_spaces names = flat_map (λ name. 32 ∷ name) names
-
--- names as one text, with a space between each two
-abbrev pub one_text : List (List ℕ) → List ℕ
-one_text [] = []
-one_text (name ∷ names) = name ++ after_spaces names
-
-abbrev pub counted_in : CountRequest → List ℕ
-counted_in c = one_text (names_of c)
-
--- the lists that the report of a count must have: of skipped entries if requested, and of files also where rows, pictures or conditions
--- need it
+-- the lists that the report of a count must have: of skipped entries if requested, and of files also where rows, pictures, trees or
+-- conditions need it
 abbrev pub lists_of : CountRequest → ReportLists
 lists_of c = record {
-  files = lists_files c.table || are_of_files (unwrap_or c.table.by all_columns) || is_picture c.table.format
+  files = lists_files c.table || are_of_files (unwrap_or c.table.by all_columns) || draws_boxes c.table.format
       || needs_files c.conditions.items;
   left_out = c.left_out;
 }
@@ -42,10 +30,10 @@ module _ (may : SystemMay) {O : Type 0} (may_take : O → List ℕ → Result �
   abbrev pub MayWalk : Options → List ℕ → Result Report WalkFault → Type 0
   MayWalk o directory = Walks (may.list directory (entered_by c.walk)) (may.give directory (entered_by c.walk)) o
 
-  -- how the report is shown, in this format if the command line names none
-  abbrev pub counts_shown : Showing
-  counts_shown =
-      showing (counted_in c) c.conditions.items (options_in other all_columns c.table) (columns_of c.attributes.items)
+  -- how the report is shown with this title, in this format if the command line names none
+  abbrev pub counts_shown : List ℕ → Showing
+  counts_shown title =
+      showing title (chosen_in (columns_of c.attributes.items) c) c.conditions.items (options_in other all_columns c.table) (columns_of c.attributes.items)
       (end_for c.walk.null)
 
   -- what is found in the directories that the command line names, or why nothing is
@@ -59,11 +47,13 @@ module _ (may : SystemMay) {O : Type 0} (may_take : O → List ℕ → Result �
   -- report was printed; or there is no report, and nothing was written; or the table was not written, or not whole
   abbrev pub Prints : Options → O → Result Printed Cause → O → Type 0
   Prints o out (Ok printed) wrote =
-      (r : Report) × FindsAsked o r × AnswersTable may_take counts_shown r printed.report out (Ok printed.refused) wrote
+      (title : List ℕ) × HasTitle may.stand c title
+      × ((r : Report) × FindsAsked o r × AnswersTable may_take (counts_shown title) r printed.report out (Ok printed.refused) wrote)
   Prints o out (Err cause) wrote =
       (FindsNoneAsked o cause × (wrote ≡ out))
-      ⊎ ((r left : Report) × (fault : PrintFault) × FindsAsked o r × (cause ≡ print_cause fault)
-      × AnswersTable may_take counts_shown r left out (Err fault) wrote)
+      ⊎ ((title : List ℕ) × HasTitle may.stand c title
+      × ((r left : Report) × (fault : PrintFault) × FindsAsked o r × (cause ≡ print_cause fault)
+      × AnswersTable may_take (counts_shown title) r left out (Err fault) wrote))
 
 module _ (may : SystemMay) {I O : Type 0} (may_give : I → ℕ → Answer → I → Type 0)
     (may_take : O → List ℕ → Result ℕ Failed → O → Type 0) (other : Format) (c : CountRequest) where

@@ -6,7 +6,7 @@ use Rattle.lc_io.specs.declared.source.Failed.{Failed}
 use Rattle.lc_level.specs.FaultLines.{FaultLineModel}
 use Rattle.lc_text.specs.Visible.{visible_bytes}
 use Rattle.lc_sheet.specs.declared.table_options.Format.TheVariants.{Tsv, Table, Json, Csv, Markdown}
-use Rattle.lc_sheet.specs.declared.table_options.Output.{Output, TheVariants.{Text, Picture, Paths}}
+use Rattle.lc_sheet.specs.declared.table_options.Output.{Output, TheVariants.{Text, Picture, Tree, Paths}}
 use Rattle.lc_program.specs.{Commands.or_here, Reasons.uncounted_line, Tellings.Tells, Unlisted.short_line}
 use Rattle.lc_program.specs.declared.unread_reason.UnreadReason.{UnreadReason}
 use Rattle.lc_reports.specs.Named.{named_top}
@@ -32,11 +32,12 @@ number_line place count = number_text count ++ place ++ codes "\n"
 abbrev pub fault_rows : ℕ → List ℕ
 fault_rows count = cond (nat_eq count 1) (codes "the line that begins with fault") (codes "the lines that begin with fault")
 
--- the lines about paths inside the counted directories that could not be read: a line for each path for CSV, HTML and paths, and for every other
--- format one line that names the place where the output lists them
+-- the lines about paths inside the counted directories that could not be read: a line for each path for CSV, HTML, trees and paths, and for
+-- every other format one line that names the place where the output lists them
 abbrev pub lines_by : Output → List FaultLineModel → List ℕ
 lines_by (Text Csv) faults = each_line faults
 lines_by Picture faults = each_line faults
+lines_by Tree faults = each_line faults
 lines_by Paths faults = each_line faults
 lines_by (Text Tsv) faults = number_line (fault_rows (length faults)) (length faults)
 lines_by (Text Table) faults = number_line (codes "the list of faults") (length faults)

@@ -1,8 +1,10 @@
 pub mod Causes
+pub mod Chosen
 pub mod Commands
 pub mod Counts
 pub mod Faults
 pub mod Finds
+pub mod Headings
 pub mod Hints
 pub mod Introductions
 pub mod LanguageColumns

@@ -38,7 +38,7 @@ module _ {I : Type 0} (may_give : I → ℕ → Answer → I → Type 0) (holds 
   GivesList name input (Err why) read =
       (fault : WholeFault) × AnswersList may_give holds name input (Err fault) read × IsListCause may_unread name fault why
 
--- the path that a line of the list has: without any `./` at its beginning and without one slash at its end
+-- the path of an item of the list: without each `./` at its beginning and the slashes after it, and without one slash at its end
 abbrev pub listed_path : List ℕ → List ℕ
 listed_path line = path_of (undotted line)
 

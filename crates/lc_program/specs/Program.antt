@@ -124,11 +124,11 @@ module _ {I O E : Type 0} (system : SystemMay) (may : StreamsMay I O E) (words :
   abbrev pub Ends : Streams I O E → Ending → Streams I O E → Type 0
   -- a request was answered and all is well, or a text was shown
   Ends before Done after = EndsAnswered before Done after ⊎ Shows before Done after
-  -- an answer was written that tells of a fault
+  -- an answer was written, but something could not be read or printed
   Ends before SomeFaults after = EndsAnswered before SomeFaults after
   -- an answer was written that counts a file, or compares sides that differ, which was to be a failure
   Ends before AnyFile after = EndsAnswered before AnyFile after
-  -- the words fail, nothing was read or written, and why was told, in a message that begins with `error: ` and names an argument
+  -- the arguments are refused: nothing was read, and nothing written but a message, which begins with `error: ` and names an argument
   Ends before Misused after =
       AreRefused words × (after.input ≡ before.input) × (after.out ≡ before.out)
       × ((why : List ℕ) × IsMessage why × IsNamingError words why × Tells may.tell before.err why after.err)

@@ -1,26 +1,28 @@
 -- The text of a report, by its options.
-use Rattle.std.specs.{Prelude.{◌≡◌, ℕ, List, []}, List.Sorted.IsPermutation}
+use Rattle.std.specs.{Prelude.{◌≡◌, ℕ, List, [], unwrap_or}, List.Sorted.IsPermutation}
 use Rattle.lc_formats.specs.{Paths.{paths_of, refused_lines}, Texts.IsTextIn}
-use Rattle.lc_picture.specs.Page.{IsPageOf, drawn_number}
+use Rattle.lc_picture.specs.{Page.{IsPageOf, drawn_number}, Tree.IsTreeOf}
 use Rattle.lc_rows.specs.{Kept.IsKept, Sheets.IsSheetOf}
 use Rattle.lc_sheet.specs.{Conditions.ConditionModel, Sheets.{SheetModel, sheet_format}}
-use Rattle.lc_sheet.specs.declared.table_options.{Output.{Output, TheVariants.{Text, Picture, Paths}}, ReportOptions.ReportOptions}
+use Rattle.lc_sheet.specs.declared.table_options.{Output.{Output, TheVariants.{Text, Picture, Tree, Paths}}, ReportOptions.ReportOptions}
 use Rattle.lc_sheet.specs.declared.table_options.TableOptions.{TableOptions}
 use Rattle.lc_text.specs.declared.lines.PathEnd.{PathEnd}
 use Rattle.lc_walk.specs.declared.report.Report.{Report}
 
--- how a report is shown: what was counted, the conditions on its files, the options of the table, the columns of attributes, and what ends
+-- how a report is shown: its title, which files were chosen, the conditions on its files, the options of the table, the columns of attributes, and what ends
 -- each path
 pub record Showing : Type 0 where
-  pub counted : List ℕ
+  pub title : List ℕ
+  pub chosen : List ℕ
   pub conditions : List ConditionModel
   pub table : TableOptions
   pub attributes : List (List ℕ)
   pub end : PathEnd
 
-abbrev pub showing : List ℕ → List ConditionModel → TableOptions → List (List ℕ) → PathEnd → Showing
-showing counted conditions table attributes end = record {
-  counted = counted;
+abbrev pub showing : List ℕ → List ℕ → List ConditionModel → TableOptions → List (List ℕ) → PathEnd → Showing
+showing title chosen conditions table attributes end = record {
+  title = title;
+  chosen = chosen;
   conditions = conditions;
   table = table;
   attributes = attributes;
@@ -28,7 +30,7 @@ showing counted conditions table attributes end = record {
 }
 
 abbrev pub showing_of : ReportOptions → Showing
-showing_of o = showing o.counted.now o.conditions.now o.table o.attributes.now o.end
+showing_of o = showing o.title.now o.chosen.now o.conditions.now o.table o.attributes.now o.end
 
 -- a text is that of a sheet as this output, without the paths that have these lines; only paths are refused
 abbrev pub IsWrittenAs : Output → PathEnd → SheetModel → List ℕ → List ℕ → Type 0
@@ -43,11 +45,16 @@ pub record HasSheet (s : Showing) (r : Report) (text refused : List ℕ) : Type 
 
 -- the same, of a page of HTML
 abbrev pub IsPageText : Showing → Report → List ℕ → List ℕ → Type 0
-IsPageText s r text refused = IsPageOf s.counted (drawn_number s.table.sort) r text × (refused ≡ [])
+IsPageText s r text refused = IsPageOf s.title s.chosen (drawn_number s.table.sort) r text × (refused ≡ [])
+
+-- the same, of a tree
+abbrev pub IsTreeText : Showing → Report → List ℕ → List ℕ → Type 0
+IsTreeText s r text refused = IsTreeOf s.title (drawn_number s.table.sort) (unwrap_or s.table.by.dir 1) r text × (refused ≡ [])
 
 -- a text shows a report as this output
 abbrev pub IsTextBy : Output → Showing → Report → List ℕ → List ℕ → Type 0
 IsTextBy Picture s r text refused = IsPageText s r text refused
+IsTextBy Tree s r text refused = IsTreeText s r text refused
 IsTextBy (Text format) s r text refused = HasSheet s r text refused
 IsTextBy Paths s r text refused = HasSheet s r text refused
 

@@ -18,7 +18,7 @@ use Rattle.lc_program.specs.{Finds.HasLine, Reasons.{is_no_directory, unexplaine
 use Rattle.lc_program.specs.{Systems.SystemMay, declared.cause.Cause.{Cause, TheVariants.Memory}}
 use Rattle.lc_program.specs.declared.unread_reason.UnreadReason.{UnreadReason}
 
--- the explanations of paths in a tree, by what the tree may answer
+-- how a request to explain paths in a tree is answered, if the tree gives certain answers
 module _ (lists : List ℕ → Listings) (gives : List ℕ → Contents) {I O : Type 0} (may_give : I → ℕ → Answer → I → Type 0)
     (may_take : O → List ℕ → Result ℕ Failed → O → Type 0) where
   abbrev pub AnswersPaths : ExplainOptions → Bool → List (Bor (List ℕ)) → I → O → Reply → I → O → Type 0

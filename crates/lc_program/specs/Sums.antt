@@ -1,9 +1,9 @@
 -- How a sum is answered, by what was read and written.
-use Rattle.std.specs.{Prelude.{◌≡◌, ◌⊎◌, ◌||◌, ℕ, List, ◌++◌, map, codes, Some, None, Result, Ok, Err, Vec}, Global.Global}
-use Rattle.lc_arguments.specs.{Combinations.is_picture, Reports.report_model, TableWords.{lists_files, options_in}}
+use Rattle.std.specs.{Prelude.{◌≡◌, ◌⊎◌, ◌||◌, ℕ, List, map, Result, Ok, Err, Vec}, Global.Global}
+use Rattle.lc_arguments.specs.{Combinations.draws_boxes, Reports.report_model, TableWords.{lists_files, options_in}}
 use Rattle.lc_arguments.specs.declared.sum.SumRequest.{SumRequest}
 use Rattle.lc_io.specs.{Reads.Answer, declared.{printing.PrintFault.PrintFault, source.Failed.Failed}}
-use Rattle.lc_program.specs.{Causes.print_cause, Counts.one_text, Replies.Reply, ReportFiles.{AnswersParts, Typed}}
+use Rattle.lc_program.specs.{Causes.print_cause, Headings.{chosen_in_sum, title_of_sum}, Replies.Reply, ReportFiles.{AnswersParts, Typed}}
 use Rattle.lc_program.specs.{ReportLines.IsUnsummedFor, Runs.AnswersTable, Systems.SystemMay, declared.answered.Answered.TheVariants.Summed}
 use Rattle.lc_program.specs.{ReportTexts.{Showing, showing}, Styles.end_for, WalkRequests.columns_of}
 use Rattle.lc_program.specs.declared.{cause.Cause.Cause, runs.Printed.Printed}
@@ -15,25 +15,17 @@ use Rattle.lc_walk.specs.declared.report.Report.{Report}
 abbrev pub reports_of : SumRequest → List Typed
 reports_of c = map report_model c.reports.items
 
--- a REPORT as it was typed
-abbrev pub typed_text : Typed → List ℕ
-typed_text (None, report) = report
-typed_text (Some name, report) = name ++ codes "=" ++ report
-
--- all REPORTs of the command line as one text, as they were typed
-abbrev pub summed_in : SumRequest → List ℕ
-summed_in c = one_text (map typed_text (reports_of c))
-
 -- the columns and lists that each report must have
 abbrev pub needed_by : SumRequest → Needs
-needed_by c = needs_of c.table.by c.conditions.items (lists_files c.table || is_picture c.table.format) c.left_out
+needed_by c = needs_of c.table.by c.conditions.items (lists_files c.table || draws_boxes c.table.format) c.left_out
 
 module _ {O : Type 0} (may_take : O → List ℕ → Result ℕ Failed → O → Type 0) (other : Format) (c : SumRequest) where
   -- how a sum is shown. The format is `other` if the command line names none, and the columns are those that each report has if it names
   -- no columns
   abbrev pub sums_shown : Report → Showing
   sums_shown s =
-      showing (summed_in c) c.conditions.items (options_in other s.columns c.table) (columns_of c.attributes.items) (end_for c.null)
+      showing (title_of_sum c) (chosen_in_sum (columns_of c.attributes.items) c) c.conditions.items (options_in other s.columns c.table)
+      (columns_of c.attributes.items) (end_for c.null)
 
   -- the table of a sum was written whole, and the part of the sum that meets the conditions was printed; or it was not written, or not
   -- whole

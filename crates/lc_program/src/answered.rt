@@ -17,11 +17,11 @@ pub(crate) enum Answered {
     Listed,
     /// An explanation of paths. The outcome says whether the explanation has errors.
     Explained(Outcome),
-    /// A count: what was printed, and what standard error says of the options.
+    /// A count: what was printed, and the lines about options that standard error gets.
     Counted(Printed, Remarks),
     /// A sum of reports: what was printed.
     Summed(Printed),
-    /// A comparison, and what standard error says of the options.
+    /// A comparison, and the lines about options that standard error gets.
     Compared(Comparison, Remarks),
 }
 

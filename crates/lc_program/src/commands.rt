@@ -7,7 +7,7 @@ use lc_text::{push_quoted, push_visible};
 use std::alloc::{AllocError, Global};
 use std::path::Path;
 
-/// Returns whether a path can be typed as a terminal shows it, and would then not be read as an option.
+/// Returns whether a terminal shows a path as it is, and the path is not empty and does not begin with `-`.
 pub(crate) fn is_typed(alloc: Global, path: &str) -> Result<bool, AllocError>
     ensures { IfOk result (λ typed. typed ≡ is_typed path.now) }
 {

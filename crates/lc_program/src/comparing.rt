@@ -179,7 +179,7 @@ fn print_sides<O: Sink>(
     }
 }
 
-/// Makes the reply to a comparison, with what standard error says of the options.
+/// Makes the reply to a comparison, with the lines about options that standard error gets.
 fn replied(
     alloc: Global,
     emptied: String,

@@ -1,9 +1,9 @@
 //! Answers `lc count`: counts directories, and prints the table.
 
-ghost use Rattle.std.specs.Prelude.{◌≡◌, ◌++◌, map, string_bytes, IfOk, OnOk};
+ghost use Rattle.std.specs.Prelude.{◌≡◌, string_bytes};
 ghost use Rattle.lc_arguments.specs.Words.{IsCountWithinLimits};
 ghost use Rattle.lc_arguments.specs.TableWords.{options_in};
-ghost use Rattle.lc_program.specs.Counts.{AnswersApart, AnswersCount, Prints, after_spaces, lists_of, one_text};
+ghost use Rattle.lc_program.specs.Counts.{AnswersApart, AnswersCount, Prints, lists_of};
 ghost use Rattle.lc_program.specs.Replies.{IsReplyWith};
 ghost use Rattle.lc_program.specs.Systems.{may_of};
 ghost use Rattle.lc_program.specs.WalkRequests.{IsAskedBy};
@@ -19,6 +19,7 @@ use crate::cause::Cause;
 use crate::checking::path_end;
 use crate::filters::{narrowed, read_filters};
 use crate::finding::found;
+use crate::heading::count_heading;
 use crate::nested::refuse_unless_apart;
 use crate::path_list::{emptied_line, list_of, wanted_paths};
 use crate::runs::Printed;
@@ -31,22 +32,22 @@ use lc_io::{Sink, Source};
 use lc_level::{Filters, NamedAttributes};
 use lc_sheet::{Columns, Format, ReportOptions, needs_files};
 use lc_walk::{Options, ReportLists};
-use std::alloc::{AllocError, Global};
+use std::alloc::Global;
 use std::sync::Wait;
 use std::thread::Threads;
 
 // The command line allows as many threads and directories as a walk can have.
 const _: () = prove!(MAX_THREADS == MAX_WORKERS && MAX_DIRS == MAX_CAPACITY);
 
-/// Returns which lists the report of a count must have. A table with rows by directories or attributes, a picture, and a condition on a
-/// number or an attribute need the list of files.
+/// Returns which lists the report of a count must have. A table with rows by directories or attributes, a picture or a tree, and a
+/// condition on a number or an attribute need the list of files.
 fn lists_of(asked: &CountRequest<'_>) -> ReportLists
     ensures { result ≡ lists_of asked.now }
 {
     ReportLists {
         files: asked.table.lists_files()
             || asked.table.by.unwrap_or(Columns::ALL).are_of_files()
-            || asked.table.is_picture()
+            || asked.table.draws_boxes()
             || needs_files(&asked.conditions),
         left_out: asked.left_out,
     }
@@ -70,29 +71,6 @@ pub(crate) fn options_of<'o>(
     }
 }
 
-/// Appends names, each after a space.
-fn push_after_spaces(text: &mut Vec<u8>, names: &[&str]) -> Result<(), AllocError>
-    ensures { OnOk result (text.new.items ≡ text.old.items ++ after_spaces (map (λ name. name.now) names.now)) }
-{
-    for name in names {
-        text.push(b' ')?;
-        text.extend_from_slice(name.as_bytes())?;
-    }
-    Ok(())
-}
-
-/// Makes one text of names, with a space between each two.
-fn one_text(alloc: Global, names: &[&str]) -> Result<Vec<u8>, AllocError>
-    ensures { IfOk result (λ text. text.items ≡ one_text (map (λ name. name.now) names.now)) }
-{
-    let Some((first, others)) = names.split_first() else {
-        return Ok(Vec::new(alloc));
-    };
-    let mut text = first.as_bytes().to_vec(alloc)?;
-    push_after_spaces(&mut text, others)?;
-    Ok(text)
-}
-
 /// Counts the directories that the command line names, and prints the table of what meets the conditions.
 fn print_found<R: Threads + Wait + Sync + AllocGlobal, Y: System, O: Sink>(
     rt: &R,
@@ -108,20 +86,21 @@ fn print_found<R: Threads + Wait + Sync + AllocGlobal, Y: System, O: Sink>(
         O.may_take format asked.now options.now out.old result out.new }
 {
     let columns = columns_of(rt.alloc(), &asked.attributes)?;
+    let heading = count_heading(rt.alloc(), system, asked, &columns)?;
     let mut report = found(rt, system, asked, &columns, options)?;
-    let counted = one_text(rt.alloc(), &asked.directories)?;
     let shown = ReportOptions {
         table: asked.table.options(format, Columns::ALL),
         conditions: &asked.conditions,
         attributes: &columns,
-        counted: &counted,
+        title: &heading.title,
+        chosen: &heading.chosen,
         end: path_end(asked.walk.null),
     };
     let refused = table(rt.alloc(), &mut report, shown, out)?;
     Ok(Printed { report, refused })
 }
 
-/// Makes the reply to a count, with what standard error says of the options.
+/// Makes the reply to a count, with the lines about options that standard error gets.
 fn replied(
     alloc: Global,
     emptied: String,

@@ -78,7 +78,9 @@ fn lines_by(alloc: Global, output: Output, faults: &[&FaultLine]) -> Result<Stri
     ensures { IfOk result (λ text. string_bytes text ≡ lines_by output (map (λ f. f.now) faults.now)) }
 {
     match output {
-        Output::Picture | Output::Paths | Output::Text(Format::Csv) => each_line(alloc, faults),
+        Output::Picture | Output::Tree | Output::Paths | Output::Text(Format::Csv) => {
+            each_line(alloc, faults)
+        }
         Output::Text(Format::Tsv) => number_line(alloc, fault_rows(faults.len()), faults.len()),
         Output::Text(Format::Table | Format::Markdown) => {
             number_line(alloc, "the list of faults", faults.len())

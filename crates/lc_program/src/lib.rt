@@ -34,6 +34,7 @@
 //! - `unlisted`: the lines on standard error about a directory that could not be read
 //! - `unnamed`: the lines on standard error about attributes that no attribute file names, and about a list without paths
 //! - `unmatched`, `meant`: the lines on standard error about patterns that can match nothing, or may mean something else
+//! - `heading`, `chosen`: the heading of a picture or a tree, and the words for which files are shown
 //! - `hints`: the hint on standard error that rules in the directories above a counted directory were not read
 //! - `commands`: the commands that the lines on standard error suggest
 #![tactic(auto)]
@@ -44,6 +45,7 @@ mod attributes;
 mod cause;
 mod checking;
 mod choices;
+mod chosen;
 mod commands;
 mod comparing;
 mod comparison;
@@ -53,6 +55,7 @@ mod explaining;
 mod faults;
 mod filters;
 mod finding;
+mod heading;
 mod hints;
 mod introducing;
 mod meant;

@@ -69,7 +69,7 @@ impl From<PrintFault> for RunFault {
 /// ```
 /// let tree = SysTree::new(&rt, rt.alloc(), "src", FileSystems::All)?;
 /// let table = TableOptions { output: Output::Text(Format::Tsv), by: Columns::ALL, sort: None, top: None, files: false, share: false };
-/// let shown = ReportOptions { table, conditions: &[], attributes: &[], counted: b"src", end: PathEnd::LineFeed };
+/// let shown = ReportOptions { table, conditions: &[], attributes: &[], title: b"src", chosen: b"", end: PathEnd::LineFeed };
 /// let printed = run(&rt, rt.alloc(), &tree, &options, shown, &mut out)?;
 /// assert!(printed.report.faults.is_empty());
 /// ```

@@ -1,13 +1,14 @@
 //! Making and writing the text of a report.
 
 ghost use Rattle.std.specs.Prelude.{◌≡◌, IfOk, string_bytes};
-ghost use Rattle.lc_program.specs.ReportTexts.{HasSheet, IsPageText, IsPrinted, IsReordered, IsTextOf, IsWrittenAs, showing_of};
+ghost use Rattle.lc_program.specs.ReportTexts.{HasSheet, IsPageText, IsPrinted, IsReordered, IsTextOf, IsTreeText, IsWrittenAs};
+ghost use Rattle.lc_program.specs.ReportTexts.{showing_of};
 ghost use Rattle.lc_program.specs.Runs.{AnswersTable};
 ghost use Rattle.lc_rows.specs.WalkedReports.{HasFilesFor};
 
 use lc_formats::{PathsText, paths_text, text};
 use lc_io::{PrintFault, Sink, print};
-use lc_picture::page;
+use lc_picture::{page, tree};
 use lc_rows::{Shown, keep, sort_files};
 use lc_sheet::{Lines, Output, ReportOptions, Sheet};
 use lc_text::PathEnd;
@@ -50,7 +51,7 @@ fn sheet_text(
     Ok(made)
 }
 
-/// Makes the page of HTML of a report, whose heading says what was counted.
+/// Makes the page of HTML of a report, with its heading.
 fn page_text(
     alloc: Global,
     report: &mut Report,
@@ -59,7 +60,24 @@ fn page_text(
     ensures text { IfOk result (λ made. IsPageText (showing_of shown.entry) report.old made.text.items (string_bytes made.refused)) }
     ensures left { IsReordered report.old report.new }
 {
-    let text = page(alloc, shown.counted, report, shown.table.sort)?;
+    let text = page(alloc, shown.title, shown.chosen, report, shown.table.sort)?;
+    Ok(PathsText {
+        text,
+        refused: String::new(alloc),
+    })
+}
+
+/// Makes the lines of the tree of a report, with its title.
+fn tree_text(
+    alloc: Global,
+    report: &mut Report,
+    shown: ReportOptions<'_>,
+) -> Result<PathsText, AllocError>
+    ensures text { IfOk result (λ made. IsTreeText (showing_of shown.entry) report.old made.text.items (string_bytes made.refused)) }
+    ensures left { IsReordered report.old report.new }
+{
+    let levels = shown.table.by.dir.unwrap_or(1);
+    let text = tree(alloc, shown.title, report, shown.table.sort, levels)?;
     Ok(PathsText {
         text,
         refused: String::new(alloc),
@@ -69,8 +87,8 @@ fn page_text(
 /// Makes the text of a report, whether or not its files meet the conditions of `shown`.
 ///
 /// The function may sort the report's list of files. If the table has rows by directories or attributes, the function requires that the
-/// report has this list. A picture shows the files in this list. An error means that an allocation failed, or that sums or shares overflow.
-/// The sums and shares of a walk never overflow.
+/// report has this list. A picture or a tree shows the files in this list. An error means that an allocation failed, or that sums or shares
+/// overflow. The sums and shares of a walk never overflow.
 pub fn report_text(
     alloc: Global,
     report: &mut Report,
@@ -82,6 +100,7 @@ pub fn report_text(
 {
     match shown.table.output {
         Output::Picture => page_text(alloc, report, shown),
+        Output::Tree => tree_text(alloc, report, shown),
         Output::Text(_) | Output::Paths => sheet_text(alloc, report, shown),
     }
 }

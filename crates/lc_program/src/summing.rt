@@ -1,10 +1,8 @@
 //! Answers `lc sum`: reads reports, adds them up, and prints the sum.
 
-ghost use Rattle.std.specs.Prelude.{◌≡◌, ◌++◌, map, IfOk, OnOk};
-ghost use Rattle.lc_arguments.specs.Reports.{report_model};
+ghost use Rattle.std.specs.Prelude.{◌≡◌};
 ghost use Rattle.lc_arguments.specs.TableWords.{options_in};
-ghost use Rattle.lc_program.specs.Counts.{after_spaces, one_text};
-ghost use Rattle.lc_program.specs.Sums.{AnswersSum, PrintsParts, PrintsSum, needed_by, typed_text};
+ghost use Rattle.lc_program.specs.Sums.{AnswersSum, PrintsParts, PrintsSum, needed_by};
 ghost use Rattle.lc_program.specs.Systems.{may_of};
 ghost use Rattle.lc_rows.specs.WalkedReports.{HasFilesFor};
 
@@ -12,58 +10,24 @@ use crate::answered::Answered;
 use crate::attributes::columns_of;
 use crate::cause::Cause;
 use crate::checking::path_end;
+use crate::heading::sum_heading;
 use crate::report_files::read_all;
 use crate::report_lines::cause_of_sum;
 use crate::runs::Printed;
 use crate::showing::table;
 use crate::system::System;
-use lc_arguments::{NamedReport, SumRequest};
+use lc_arguments::SumRequest;
 use lc_io::{Sink, Source};
 use lc_reports::{Needs, Part, summed};
 use lc_sheet::{Format, ReportOptions};
 use lc_walk::Report;
-use std::alloc::{AllocError, Global};
-
-/// Appends a report as it was typed: `REPORT` or `NAME=REPORT`.
-fn push_typed(text: &mut Vec<u8>, typed: NamedReport<'_>) -> Result<(), AllocError>
-    ensures { OnOk result (text.new.items ≡ text.old.items ++ typed_text (report_model typed.entry)) }
-{
-    if let Some(name) = typed.name {
-        text.extend_from_slice(name.as_bytes())?;
-        text.push(b'=')?;
-    }
-    text.extend_from_slice(typed.report.as_bytes())
-}
-
-/// Appends reports as they were typed, each after a space.
-fn push_after_spaces(text: &mut Vec<u8>, reports: &[NamedReport<'_>]) -> Result<(), AllocError>
-    ensures { OnOk result (text.new.items ≡ text.old.items ++ after_spaces (map typed_text (map report_model reports.now))) }
-{
-    for typed in reports {
-        text.push(b' ')?;
-        push_typed(text, *typed)?;
-    }
-    Ok(())
-}
-
-/// Makes one text of reports as they were typed, with a space between each two.
-fn one_text(alloc: Global, reports: &[NamedReport<'_>]) -> Result<Vec<u8>, AllocError>
-    ensures { IfOk result (λ text. text.items ≡ one_text (map typed_text (map report_model reports.now))) }
-{
-    let mut text = Vec::new(alloc);
-    let Some((first, others)) = reports.split_first() else {
-        return Ok(text);
-    };
-    push_typed(&mut text, *first)?;
-    push_after_spaces(&mut text, others)?;
-    Ok(text)
-}
+use std::alloc::Global;
 
 /// Returns which columns and lists a sum needs of each report.
 fn needed_by(asked: &SumRequest<'_>) -> Needs
     ensures { result ≡ needed_by asked.now }
 {
-    let files = asked.table.lists_files() || asked.table.is_picture();
+    let files = asked.table.lists_files() || asked.table.draws_boxes();
     Needs::of(asked.table.by, &asked.conditions, files, asked.left_out)
 }
 
@@ -78,13 +42,14 @@ fn print_sum<O: Sink>(
     requires files { HasFilesFor (options_in format sum.columns asked.now.table) sum.lists }
     ensures { PrintsSum O.may_take format asked.now sum out.old result out.new }
 {
-    let counted = one_text(alloc, &asked.reports)?;
     let columns = columns_of(alloc, &asked.attributes)?;
+    let heading = sum_heading(alloc, asked, &columns)?;
     let options = ReportOptions {
         table: asked.table.options(format, sum.columns),
         conditions: &asked.conditions,
         attributes: &columns,
-        counted: &counted,
+        title: &heading.title,
+        chosen: &heading.chosen,
         end: path_end(asked.null),
     };
     let mut report = sum;

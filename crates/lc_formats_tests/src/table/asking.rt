@@ -136,7 +136,8 @@ pub(super) fn showing_all(table: TableOptions) -> ReportOptions<'static>
     ensures { result.table ≡ table }
 {
     ReportOptions {
-        counted: b".",
+        title: b"",
+        chosen: b"",
         table,
         conditions: &[],
         attributes: &[],

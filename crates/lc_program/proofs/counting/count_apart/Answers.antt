@@ -1,9 +1,12 @@
-use Rattle.std.proofs.Common.{◌≡◌, ◌∙◌, ◌||◌, Bool, true, false, Ok, ap, inl, inr, map, refl}
-use Rattle.lc_arguments.specs.TableWords.{lists_files}
+use Rattle.std.proofs.Common.{◌≡◌, ◌∙◌, ◌||◌, Bool, true, false, cond, Ok, Option, Some, None, ap, inl, inr, map, refl, unwrap_or}
+use Rattle.lc_arguments.specs.{Combinations.draws_boxes, TableWords.{columns_in, lists_files, output_in}}
+use Rattle.lc_arguments.specs.declared.table.TableRequest.{TableRequest}
 use Rattle.lc_level.specs.Filters.{FiltersModel}
 use Rattle.lc_program.specs.{Counts.lists_of, WalkRequests.named_in}
 use Rattle.lc_program.specs.declared.{answered.Answered.TheVariants.Counted, cause.Cause.TheVariants.Memory}
-use Rattle.lc_walk.specs.declared.options.ReportLists.{ReportLists}
+use Rattle.lc_sheet.specs.{Keys.are_of_files, declared.table_options.{Format.{Format, TheVariants.Table}, Output.Output}}
+use Rattle.lc_sheet.specs.declared.table_options.Output.TheVariants.{Text, Picture, Tree, Paths}
+use Rattle.lc_walk.specs.{AllColumns.all_columns, declared.options.ReportLists.ReportLists}
 use Rattle.lc_program.proofs.{FiltersAsked.{asked_by_all, emptied_by, memory_wanted, same_reply, same_wanted}, Loading.given_up}
 use Rattle.lc_program.proofs.counting.count_apart.Goals as goal
 
@@ -62,15 +65,31 @@ returns-in_err-filters-2 g c =
       refl,
     )
 
--- rows by directories or attributes need the list of files
-listed : (a b c d : Bool) → b ≡ true → (a || b || c || d) ≡ true
-listed true b c d is = refl
-listed false b c d is = ap (λ x. x || c || d) is
+-- rows by directories or attributes need the list of files, and so does a tree
+listed : (a d : Bool) (other : Format) (t : TableRequest) → are_of_files (columns_in (output_in other t) all_columns t) ≡ true
+    → (a || are_of_files (unwrap_or t.by all_columns) || draws_boxes t.format || d) ≡ true
+listed true d other t is = refl
+listed false d other t is = at t.format is
+  where
+    rows : Bool
+    rows = are_of_files (unwrap_or t.by all_columns)
+
+    drawn : (b : Bool) → (b || true || d) ≡ true
+    drawn true = refl
+    drawn false = refl
+
+    at : (f : Option Output) → are_of_files (columns_in (unwrap_or f (Text (cond t.share Table other))) all_columns t) ≡ true
+        → (rows || draws_boxes f || d) ≡ true
+    at None is = ap (λ x. x || draws_boxes None || d) is
+    at (Some (Text format)) is = ap (λ x. x || draws_boxes (Some (Text format)) || d) is
+    at (Some Picture) is = drawn rows
+    at (Some Tree) is = drawn rows
+    at (Some Paths) is = ap (λ x. x || draws_boxes (Some Paths) || d) is
 
 pub print_found-counted-requires-clause-files : goal.print_found-counted-requires-clause-files
 print_found-counted-requires-clause-files g c κs within by_directory =
     ap (λ (lists : ReportLists). lists.files) (c.options_of-options.ensures.lists ∙ c.lists_of.ensures)
-    ∙ listed (lists_files c.args.asked.now.table) _ _ _ by_directory
+    ∙ listed (lists_files c.args.asked.now.table) _ c.args.format c.args.asked.now.table by_directory
 
 pub returns : goal.returns
 returns g c =
