@@ -35,7 +35,7 @@ _lc_value() {
     --only) mapfile -t COMPREPLY < <(compgen -f -- "$2") ;;
     --only-from) mapfile -t COMPREPLY < <(compgen -f -- "$2") ;;
     --where) ;;
-    --format) mapfile -t COMPREPLY < <(compgen -W 'tsv table json csv markdown html paths' -- "$2") ;;
+    --format) mapfile -t COMPREPLY < <(compgen -W 'tsv table json csv markdown html tree paths' -- "$2") ;;
     --by) mapfile -t COMPREPLY < <(compgen -W "$(_lc_columns "$2" dir lang ext text eol)" -- "$2") ;;
     --depth) mapfile -t COMPREPLY < <(compgen -W '1 2 3' -- "$2") ;;
     --sort) mapfile -t COMPREPLY < <(compgen -W 'name files lines blank bytes' -- "$2") ;;
