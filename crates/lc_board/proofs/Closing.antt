@@ -2,7 +2,7 @@
 use Rattle.std.proofs.Common.{◌≡◌, ◌≢◌, ℕ, List, map, length, slice_get, Some, refl, sym, ◌∙◌, ap, subst}
 use Rattle.std.proofs.{Common.option_map, lemmas.{List.length-map, Option.slice_get-map}}
 use Rattle.lc_board.specs.{Part.part, Bare.{bare, BareEvent}, LegalHistory.{IsLegal, IsOver}}
-use Rattle.lc_board.specs.{PlainBoard.{Board, IsAfter}, PlainCalls.{RefusesRows, IsLeftLeast, NoneLeft, cell_of}, Pass.Pass}
+use Rattle.lc_board.specs.{PlainBoard.{Board, IsAfter}, PlainCalls.{RefusesRows, IsLeastPending, NonePending, cell_of}, Pass.Pass}
 use Rattle.lc_board.specs.{Numbers.HasNumbers, RecordedCalls.{RefusesMemory, RefusesRecorded, IsReady, locked_promises}}
 use Rattle.lc_board.specs.declared.{plain.cell.Cell.Cell, event.Event.Event, answers.{CloseFault.CloseFault, Ended.Ended}}
 use Rattle.lc_board.specs.{ClosedBoard.{Settled, Unfinished, Differs}, RecordedBoard.Record}
@@ -22,7 +22,7 @@ module _ {J R : Type 0} where
 
   -- a number that is left at close is told, the least of them
   pub unfinished : (c n k : ℕ) (views : List (Pass J R)) (root : J) (h : List (Event J R)) (b : Board J R) → IsAfter root h b
-      → b.capacity ≡ c → length b.held ≡ n → IsLeftLeast b k → Unfinished c n k locked_promises views
+      → b.capacity ≡ c → length b.held ≡ n → IsLeastPending b k → Unfinished c n k locked_promises views
   unfinished c n k views root h b a same count least = record {
     history = h;
     legal = legal_at c n root h b a same count;
@@ -32,13 +32,13 @@ module _ {J R : Type 0} where
   }
 
   -- where nothing is left the history is over
-  pub over_when : (root : J) (h : List (Event J R)) (b : Board J R) → IsAfter root h b → NoneLeft b → IsOver h
+  pub over_when : (root : J) (h : List (Event J R)) (b : Board J R) → IsAfter root h b → NonePending b → IsOver h
   over_when root h b a none k = unended _ _ refl (gone_status root h b k a (none k))
 
   -- where a pass's list is not its part of the stored history, the passes have no common history
   pub differs : {P : Type 0} (view : P → Pass J R) (c n w : ℕ) (ps : List P) (p : P) (root : J) (h : List (Event J R))
       (es : List BareEvent) (b : Board J R) → IsAfter root h b → b.capacity ≡ c → length b.held ≡ n
-      → map bare h ≡ es → NoneLeft b → slice_get ps w ≡ Some p → ¬ (part w es ≡ map bare (view p).mine) → Differs c n w (map view ps)
+      → map bare h ≡ es → NonePending b → slice_get ps w ≡ Some p → ¬ (part w es ≡ map bare (view p).mine) → Differs c n w (map view ps)
   differs view c n w ps p root h es b a same count is none at other = record {
     history = h;
     legal = legal_at c n root h b a same count;
@@ -77,7 +77,7 @@ module _ {J R : Type 0} where
       other (same ∙ ap (λ (u : Pass J R). map bare u.mine) (sym is))
 
   -- so a close finds what its answer needs
-  pub ready : {P : Type 0} (view : P → Pass J R) (ps : List P) (b : Board J R) (es : List BareEvent) → NoneLeft b
+  pub ready : {P : Type 0} (view : P → Pass J R) (ps : List P) (b : Board J R) (es : List BareEvent) → NonePending b
       → ((w : ℕ) (p : P) → slice_get ps w ≡ Some p → part w es ≡ map bare (view p).mine)
       → IsReady (record { board = b; history = es }) (map view ps)
   ready view ps b es none each = record {

@@ -3,7 +3,7 @@ use Rattle.std.proofs.Common.{◌≡◌, ◌≢◌, ℕ, zero, suc, ◌<◌, ◌
 use Rattle.std.proofs.{Common.{Option, Some, None, Ok, IfSome, refl, sym, ◌∙◌, ap, subst, arith}, lemmas.List.length-set}
 use Rattle.std.proofs.lemmas.Option.{slice_get_within, slice_get_read}
 use Rattle.lc_board.specs.PlainBoard.{Board, held_by, cell_at, IsAfter, Adds, posts_in, posts_by, posts_at}
-use Rattle.lc_board.specs.PlainCalls.{IsOpen, IsHeld, IsLeft, NoneOpen, NoneHeld, AnswersClaim, AnswersPost}
+use Rattle.lc_board.specs.PlainCalls.{IsOpen, IsHeld, IsPending, NoneOpen, NoneHeld, AnswersClaim, AnswersPost}
 use Rattle.lc_board.specs.{PlainFields.{IsSound, IsHeldBy}, Ending.{MayEnd, end_event}, declared.event.Event.{Event, TheVariants.Post}}
 use Rattle.lc_board.specs.declared.{plain.cell.Cell.{Cell, TheVariants.{Waiting, Held, Done}}, answers.Ended.Ended}
 use Rattle.lc_board.specs.declared.answers.Ended.TheVariants as ended
@@ -148,26 +148,26 @@ holder (h ∷ hs) (suc w) o k low e s = holder hs w o k (omega (arith, low)) e s
 
 module _ {J R : Type 0} where
   -- a cell that is left lies on the board
-  pub left_inside : (xs : List (Cell J R)) (k : ℕ) → IsLeft (slice_get xs k) → k < length xs
+  pub left_inside : (xs : List (Cell J R)) (k : ℕ) → IsPending (slice_get xs k) → k < length xs
   left_inside [] k x = absurd x
   left_inside (c ∷ xs) zero x = omega arith
   left_inside (c ∷ xs) (suc k) x = omega (arith, left_inside xs k x)
 
-  left_open : (o : Option (Cell J R)) → IsOpen o → IsLeft o
+  left_open : (o : Option (Cell J R)) → IsOpen o → IsPending o
   left_open (Some (Waiting j)) x = tt
   left_open _ x = absurd x
 
-  left_held : (o : Option (Cell J R)) → IsHeld o → IsLeft o
+  left_held : (o : Option (Cell J R)) → IsHeld o → IsPending o
   left_held (Some (Held w n)) x = tt
   left_held _ x = absurd x
 
   -- a number from the mark on is left
-  pub some_left : (m : ℕ) (b : Board J R) → IsSound m b → m < length b.cells → (k : ℕ) × IsLeft (cell_at b k)
+  pub some_left : (m : ℕ) (b : Board J R) → IsSound m b → m < length b.cells → (k : ℕ) × IsPending (cell_at b k)
   some_left m b s less = (m, left_open (cell_at b m) (s.above m (omega arith) less))
 
   -- a held number is left
   pub held_left : (m : ℕ) (b : Board J R) → IsSound m b → ((w i : ℕ) × (slice_get b.held w ≡ Some (Some i)))
-      → (k : ℕ) × IsLeft (cell_at b k)
+      → (k : ℕ) × IsPending (cell_at b k)
   held_left m b s x = let h = some_held m b s x in (h.0, left_held (cell_at b h.0) h.1)
 
   abbrev held_as : ℕ → ℕ → Cell J R

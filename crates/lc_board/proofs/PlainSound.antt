@@ -1,18 +1,11 @@
 -- What the fields of a board keep over each call.
-use Rattle.std.proofs.Common.{◌≡◌, ◌≢◌, ℕ, zero, suc, ◌<◌, ◌≤◌, ◌+◌, List, [], ◌∷◌, ◌++◌, length, slice_get, slice_set, slice_index_or}
+use Rattle.std.proofs.lemmas.Grind.{common_steps}
+use Rattle.std.proofs.Common.{◌≡◌, ◌≢◌, ℕ, ◌<◌, ◌≤◌, ◌+◌, List, [], ◌∷◌, ◌++◌, length, slice_get, slice_set, slice_index_or}
 use Rattle.std.proofs.{Common.{replicate, Option, Some, None, refl, sym, ◌∙◌, ap, subst, arith, length-append}, lemmas.List.length-set}
 use Rattle.std.proofs.lemmas.Option.{slice_get_past, slice_get_within}
 use Rattle.lc_board.specs.{Limits.capacity_limit, PlainBoard.{Board, held_by, cell_at, first_board}, PlainCalls.IsOpen, PlainFields.IsSound}
 use Rattle.lc_board.specs.{PlainFields.IsHeldBy, declared.{plain.cell.Cell.{Cell, TheVariants.{Waiting, Held, Done}}, answers.Ended.Ended}}
 use Rattle.lc_board.proofs.Places.{each, each_set, each_push, index_set_same, index_set_other, get_set_other, get_set_same}
-
-abbrev nobody : ℕ → List (Option ℕ)
-nobody n = replicate n None
-
-none_held : (n w : ℕ) → slice_index_or (nobody n) w None ≡ None
-none_held zero w = refl
-none_held (suc n) zero = refl
-none_held (suc n) (suc w) = none_held n w
 
 module _ {J R : Type 0} where
   -- a cell that is held by a worker has its number of posts
@@ -32,38 +25,8 @@ module _ {J R : Type 0} where
   pub sound_claim : (m w i : ℕ) (j : J) (b : Board J R) → IsSound m b → held_by b w ≡ None → w < length b.held → m ≡ i
       → i < length b.cells → cell_at b i ≡ Some (Waiting j)
       → IsSound (m + 1) (record { capacity = b.capacity; held = slice_set b.held w (Some i); cells = slice_set b.cells i (Held w 0) })
-  sound_claim m w i j b s free low next near here =
-      let len : length (slice_set b.cells i (Held w 0)) ≡ length b.cells = simp length-set in
-      record {
-        small = s.small;
-        fits = rw length-set s.fits;
-        reached = omega (arith, len, near, next);
-        below = each_set (λ k o. k < m + 1 → ¬ IsOpen o) b.cells i (Held w 0) near (λ _ x. x)
-            (λ k off less. s.below k (let d : k ≢ i = off in omega (arith, next, less, d)));
-        above = each_set (λ k o. m + 1 ≤ k → k < length (slice_set b.cells i (Held w 0)) → IsOpen o) b.cells i (Held w 0) near
-            (λ far _. absurd (omega (arith, far, next))) (λ k off far less. s.above k (omega (arith, far)) (omega (arith, less, len)));
-        holds = λ v k e. each (λ u. slice_index_or (slice_set b.held w (Some i)) u None ≡ Some k
-            → IsHeldBy u (slice_get (slice_set b.cells i (Held w 0)) k)) w
-            (λ x. let is : Some i ≡ Some k = sym (index_set_same b.held w (Some i) None low) ∙ x in let ik : i ≡ k = cc is in
-            subst (λ q. IsHeldBy w (slice_get (slice_set b.cells i (Held w 0)) q)) ik
-            (subst (IsHeldBy w) (sym (get_set_same b.cells i (Held w 0) near)) refl))
-            (λ u off x. let was : held_by b u ≡ Some k = sym (index_set_other b.held w u (Some i) None off) ∙ x in
-            let c = s.holds u k was in
-            let away : k ≢ i = λ ki. let at : cell_at b k ≡ Some (Waiting j) = ap (cell_at b) ki ∙ here in
-            absurd (subst (IsHeldBy u) at c) in
-            subst (IsHeldBy u) (sym (get_set_other b.cells i k (Held w 0) away)) c)
-            v e;
-        owned = λ k v n. each_set (λ q o. o ≡ Some (Held v n) → (slice_index_or (slice_set b.held w (Some i)) v None ≡ Some q)
-            × (n < length (slice_set b.cells i (Held w 0)))) b.cells i (Held w 0) near
-            (λ x. let is : w ≡ v = cc x in let no : 0 ≡ n = cc x in (
-              subst (λ u. slice_index_or (slice_set b.held w (Some i)) u None ≡ Some i) is (index_set_same b.held w (Some i) None low),
-              omega (arith, no, len, near),
-            ))
-            (λ q off x. let was = s.owned q v n x in
-            let away : v ≢ w = λ vw. let y : None ≡ Some q = sym free ∙ (ap (held_by b) (sym vw) ∙ was.0) in absurd (cc y) in
-            (index_set_other b.held w v (Some i) None away ∙ was.0, omega (arith, was.1, len)))
-            k;
-      }
+  sound_claim m w i j b h1 h2 h3 h4 h5 h6 =
+      grind (arith, length-set, each_set, each, index_set_same, get_set_same, index_set_other, get_set_other)
 
   -- over a post
   pub sound_post : (m w p n : ℕ) (j : J) (b : Board J R) → IsSound m b → p < length b.cells → length b.cells < b.capacity
@@ -134,26 +97,7 @@ module _ {J R : Type 0} where
             k;
       }
 
-  abbrev only : J → List (Cell J R)
-  only root = Waiting root ∷ []
-
-  first_open : (root : J) (k : ℕ) (o : Option (Cell J R)) → o ≡ slice_get (only root) k → k < 1 → IsOpen o
-  first_open root zero o is less = subst IsOpen (sym is) tt
-  first_open root (suc k) o is less = absurd (omega (arith, less))
-
-  first_owned : (root : J) (k w n : ℕ) → slice_get (only root) k ≡ Some (Held w n) → ⊥
-  first_owned root zero w n e = absurd (cc e)
-  first_owned root (suc k) w n e = absurd (cc e)
-
   -- at the start
   pub sound_first : (capacity workers : ℕ) (root : J) → 1 ≤ capacity → capacity ≤ capacity_limit
       → IsSound {R = R} 0 (first_board capacity workers root)
-  sound_first capacity workers root one small = record {
-    small = small;
-    fits = one;
-    reached = omega arith;
-    below = λ k less. absurd (omega (arith, less));
-    above = λ k far less. first_open root k _ refl less;
-    holds = λ w i e. let x : None ≡ Some i = sym (none_held workers w) ∙ e in absurd (cc x);
-    owned = λ k w n e. absurd (first_owned root k w n e);
-  }
+  sound_first capacity workers root h1 h2 = grind (arith, common_steps)

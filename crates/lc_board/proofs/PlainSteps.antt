@@ -5,7 +5,7 @@ use Rattle.std.proofs.lemmas.{List.{length-set, nil_from_length}, Option.{slice_
 use Rattle.lc_board.specs.{State.{Status, Absent, Open, Claimed, Returned, Faulted, status}, LegalHistory.{posts_under, IsIdle, IsOver}}
 use Rattle.lc_board.specs.{LegalHistory.{IsAllowed, IsLegal}, Part.worker_of, ClosedBoard.{Shows, IsUnended}, RowsInPlace.job_posted}
 use Rattle.lc_board.specs.{RowsInPlace.{job_got, row_given, InPlace}, PlainBoard.{Board, cell_at, IsCellOf, IsAfter, first_board}}
-use Rattle.lc_board.specs.PlainCalls.{IsOpen, IsHeld, IsLeft, NoneOpen, NoneHeld, cell_of}
+use Rattle.lc_board.specs.PlainCalls.{IsOpen, IsHeld, IsPending, NoneOpen, NoneHeld, cell_of}
 use Rattle.lc_board.specs.declared.event.Event.{Event, TheVariants.{Post, Claim, Return, Fault, Over}}
 use Rattle.lc_board.specs.{declared.{plain.cell.Cell.{Cell, TheVariants.{Waiting, Held, Done}}, answers.Ended.Ended}, Numbers.HasNumbers}
 use Rattle.lc_board.proofs.Places.{get_none, at_same, at_other, each_set, each_push}
@@ -205,24 +205,25 @@ module _ {J R : Type 0} where
       → map cell_of rows ≡ b.cells → (k : ℕ) → Shows (status h k) (slice_get rows k)
   rows_shown root h b rows a is k = (ends_at root h b rows a is k).shown
 
-  left_by : (root : J) (h : List (Event J R)) (k : ℕ) (o : Option (Cell J R)) → IsCellOf root h k o → IsLeft o → IsUnended (status h k)
+  left_by : (root : J) (h : List (Event J R)) (k : ℕ) (o : Option (Cell J R)) → IsCellOf root h k o → IsPending o → IsUnended (status h k)
   left_by root h k None f x = absurd x
   left_by root h k (Some (Done e)) f x = absurd x
   left_by root h k _ f x = subst IsUnended (sym f.0) tt
 
   -- a number whose cell is left has not ended
-  pub left_status : (root : J) (h : List (Event J R)) (b : Board J R) (k : ℕ) → IsAfter root h b → IsLeft (cell_at b k)
+  pub left_status : (root : J) (h : List (Event J R)) (b : Board J R) (k : ℕ) → IsAfter root h b → IsPending (cell_at b k)
       → IsUnended (status h k)
   left_status root h b k a x = left_by root h k (cell_at b k) (a.fits k) x
 
-  gone_by : (root : J) (h : List (Event J R)) (k : ℕ) (o : Option (Cell J R)) → IsCellOf root h k o → ¬ IsLeft o → ¬ IsUnended (status h k)
+  gone_by : (root : J) (h : List (Event J R)) (k : ℕ) (o : Option (Cell J R)) → IsCellOf root h k o → ¬ IsPending o
+      → ¬ IsUnended (status h k)
   gone_by root h k (Some (Waiting j)) f n x = n tt
   gone_by root h k (Some (Held w m)) f n x = n tt
   gone_by root h k (Some (Done (ended.Returned r))) f n x = subst IsUnended f.0 x
   gone_by root h k _ f n x = subst IsUnended f.0 x
 
   -- a number whose cell is not left has
-  pub gone_status : (root : J) (h : List (Event J R)) (b : Board J R) (k : ℕ) → IsAfter root h b → ¬ IsLeft (cell_at b k)
+  pub gone_status : (root : J) (h : List (Event J R)) (b : Board J R) (k : ℕ) → IsAfter root h b → ¬ IsPending (cell_at b k)
       → ¬ IsUnended (status h k)
   gone_status root h b k a n = gone_by root h k (cell_at b k) (a.fits k) n
 

@@ -1,4 +1,5 @@
 -- The numbers of a legal history, and what is posted under them.
+use Rattle.std.proofs.lemmas.Grind.{common_steps}
 use Rattle.std.proofs.Common.{◌≡◌, ◌≢◌, ℕ, ◌+◌, ◌<◌, ◌≤◌, ◌==◌, Bool, true, false, cond, List, [], ◌∷◌, ◌++◌, Option, Some, refl, sym, ◌∙◌}
 use Rattle.std.proofs.{Common.{ap, arith, eq-eqb}, lemmas.Bool.{eqb-true, ne_eqb}}
 use Rattle.std.specs.List.{AllByRecursion}
@@ -14,65 +15,49 @@ numbers (_ ∷ h) = numbers h
 
 -- a number that is absent after an event is another than the event's, and was absent before
 fresh : (b : Bool) (s t : Status) → s ≢ Absent → cond b s t ≡ Absent → (b ≡ false) × (t ≡ Absent)
-fresh true s t n e = absurd (n e)
-fresh false s t n e = (refl, e)
+fresh b s t h1 h2 = grind (arith, common_steps)
 
 -- what was present when the event came
 pub present : (b : Bool) (s t : Status) → cond b s t ≢ Absent → (b ≡ true → t ≢ Absent) → t ≢ Absent
-present true s t n y a = y refl a
-present false s t n y a = n a
+present b s t h1 h2 = grind (arith, common_steps)
 
 skip : {A : Type 0} (b : Bool) (xs ys : List A) → (b ≡ true → ⊥) → ys ≡ [] → cond b xs ys ≡ []
-skip true xs ys n e = absurd (n refl)
-skip false xs ys n e = e
+skip b xs ys h1 h2 = grind (arith, common_steps)
 
 zero_at : (b : Bool) (v n : ℕ) → b ≡ false → n ≡ 0 → cond b v 0 + n ≡ 0
-zero_at true v n e z = cc
-zero_at false v n e z = omega arith
+zero_at b v n h1 h2 = grind (arith, common_steps)
 
 one_at : (b : Bool) (s : Status) (v n : ℕ) → cond b Open s ≢ Absent → (b ≡ true → n ≡ 0) → (s ≢ Absent → n ≡ v) → cond b v 0 + n ≡ v
-one_at true s v n a y z = omega (arith, y refl)
-one_at false s v n a y z = omega (arith, z a)
+one_at b s v n h1 h2 h3 = grind (arith, common_steps)
 
 one_more : {J : Type 0} (b : Bool) (f : ℕ → ℕ) (xs : List (ℕ × J)) (i : ℕ) (j : J) →
     weigh (λ c. f c.0) (cond b (xs ++ (i, j) ∷ []) xs) ≡ weigh (λ c. f c.0) xs + cond b (f i) 0
-one_more true f xs i j = omega (arith, weigh-append (λ c. f c.0) xs ((i, j) ∷ []))
-one_more false f xs i j = omega arith
+one_more b f xs i j = grind (arith, common_steps, weigh-append)
 
 pass_by : {A : Type 0} (b : Bool) (x y z : Option A) → b ≡ false → y ≡ z → cond b x y ≡ z
-pass_by true x y z e f = cc
-pass_by false x y z e f = f
+pass_by b x y z h1 h2 = grind (arith, common_steps)
 
 here : {A : Type 0} (b : Bool) (x y : Option A) → b ≡ true → cond b x y ≡ x
-here true x y e = refl
-here false x y e = cc
+here b x y h1 = grind (arith, common_steps)
 
 each_cond : {A : Type 0} (P : A → Type 0) (b : Bool) (xs : List A) (x : A) → AllByRecursion P xs → (b ≡ true → P x)
     → AllByRecursion P (cond b (xs ++ x ∷ []) xs)
-each_cond P true xs x a y = each-append P xs (x ∷ []) a (y refl, tt)
-each_cond P false xs x a y = a
+each_cond P b xs x h1 h2 = grind (arith, common_steps, each-append)
 
 open_here : (b : Bool) (s : Status) → b ≡ true → cond b Open s ≢ Absent
-open_here true s e a = cc
-open_here false s e a = cc
+open_here b s h1 = grind (arith, common_steps)
 
 -- a number that is there at the start is 0
 pub start_is : (b : Bool) → cond b Open Absent ≢ Absent → b ≡ true
-start_is true n = refl
-start_is false n = absurd (n refl)
+start_is b h1 = grind (arith, common_steps)
 
 split_open : {P : Type 0} (b : Bool) (s : Status) → cond b Open s ≢ Absent → (b ≡ true → P) → (s ≢ Absent → P) → P
-split_open true s n y z = y refl
-split_open false s n y z = z n
+split_open b s h1 h2 h3 = grind (arith, common_steps)
 
 module _ {J R : Type 0} where
   -- a number that is absent after an event was so before it
   pub persist : (e : Event J R) (h : List (Event J R)) (k : ℕ) → status (e ∷ h) k ≡ Absent → status h k ≡ Absent
-  persist (Post w p i j) h k a = (fresh (k == i) Open (status h k) (λ x. cc) a).1
-  persist (Claim w i j) h k a = (fresh (k == i) (Claimed w) (status h k) (λ x. cc) a).1
-  persist (Return w i r) h k a = (fresh (k == i) Returned (status h k) (λ x. cc) a).1
-  persist (Fault w i r) h k a = (fresh (k == i) Faulted (status h k) (λ x. cc) a).1
-  persist (Over w) h k a = a
+  persist e h k h1 = grind (arith, common_steps, fresh)
 
   -- 0 is always there
   pub start : (h : List (Event J R)) → status h 0 ≢ Absent
@@ -129,10 +114,7 @@ module _ {J R : Type 0} where
   -- the numbers are present
   pub all_present : (h : List (Event J R)) → AllByRecursion (λ k. status h k ≢ Absent) (numbers h)
   all_present [] = (λ a. cc, tt)
-  all_present (Post w q i j ∷ h) = (
-    open_here (i == i) (status h i) (eq-eqb i i refl),
-    each-map (λ k. status h k ≢ Absent) _ (λ k n a. n (persist (Post w q i j) h k a)) (numbers h) (all_present h),
-  )
+  all_present (Post w q i j ∷ h) = grind (arith, common_steps, open_here, eq-eqb, each-map, persist, all_present h)
   all_present (e ∷ h) = each-map (λ k. status h k ≢ Absent) _ (λ k n a. n (persist e h k a)) (numbers h) (all_present h)
 
   -- a number that is present is below the capacity
@@ -177,38 +159,18 @@ module _ {J R : Type 0} where
 
   known_more : (c : ℕ) (top : J) (h : List (Event J R)) (w q i : ℕ) (j : J) (p : ℕ) (post : ℕ × J) →
       status h i ≡ Absent → Known c top h p post → Known c top (Post w q i j ∷ h) p post
-  known_more c top h w q i j p post a k = record {
-    value = pass_by (post.0 == i) (Some j) (job_posted top h post.0) (Some post.1)
-        (ne_eqb post.0 i (λ e. k.there (ap (λ x. status h x) e ∙ a))) k.value;
-    there = λ x. k.there (persist (Post w q i j) h post.0 x);
-    above = k.above;
-    inside = k.inside;
-  }
+  known_more c top h w q i j p post h1 h2 = grind (arith, common_steps, pass_by, ne_eqb, persist)
 
   -- what is known of each post under a number
   pub known : (c n : ℕ) (top : J) (h : List (Event J R)) → IsLegal c n h → (p : ℕ) → AllByRecursion (Known c top h p) (posts_under p h)
   known c n top [] l p = tt
   known c n top (Post w q i j ∷ h) l p =
-      let low : q < i = l.2.3 in
-      let fits : i < c = l.2.2 in
-      each_cond (Known c top (Post w q i j ∷ h) p) (p == q) (posts_under p h) (i, j)
-      (each-map (Known c top h p) (Known c top (Post w q i j ∷ h) p) (λ post k. known_more c top h w q i j p post l.2.1 k)
-      (posts_under p h) (known c n top h l.0 p))
-      (λ t. let same = eqb-true p q t in record {
-        value = here (i == i) (Some j) (job_posted top h i) (eq-eqb i i refl);
-        there = open_here (i == i) (status h i) (eq-eqb i i refl);
-        above = omega arith;
-        inside = fits;
-      })
+      grind (arith, common_steps, each_cond, each-map, known_more, eqb-true, here, eq-eqb, open_here, persist, known c n top h l.0 p)
   known c n top (e ∷ h) l p =
-      each-map (Known c top h p) (Known c top (e ∷ h) p)
-      (λ post k. record { value = k.value; there = λ x. k.there (persist e h post.0 x); above = k.above; inside = k.inside })
-      (posts_under p h) (known c n top h l.0 p)
+      grind (arith, common_steps, each_cond, each-map, known_more, eqb-true, here, eq-eqb, open_here, persist, known c n top h l.0 p)
 
   -- the job of the top is that of number 0
   pub top_posted : (c n : ℕ) (top : J) (h : List (Event J R)) → IsLegal c n h → job_posted top h 0 ≡ Some top
   top_posted c n top [] l = refl
-  top_posted c n top (Post w q i j ∷ h) l =
-      pass_by (0 == i) (Some j) (job_posted top h 0) (Some top) (ne_eqb 0 i (λ e. start h (ap (λ k. status h k) e ∙ l.2.1)))
-      (top_posted c n top h l.0)
+  top_posted c n top (Post w q i j ∷ h) l = grind (arith, common_steps, pass_by, ne_eqb, start, top_posted c n top h l.0)
   top_posted c n top (_ ∷ h) l = top_posted c n top h l.0

@@ -1,4 +1,5 @@
 -- The numbers that all workers ended are the numbers of a history that is over, each once.
+use Rattle.std.proofs.lemmas.Grind.{common_steps}
 use Rattle.std.proofs.Common.{◌≡◌, ◌≢◌, ℕ, zero, suc, ◌+◌, ◌<◌, ◌≤◌, ◌==◌, Bool, true, false, cond, List, [], ◌∷◌, ◌++◌, length, map}
 use Rattle.std.proofs.Common.{slice_get, refl, sym, ◌∙◌, ap, arith, subst, Option, Some, None, ◌⊎◌, inl, inr, IsPermutation, sum_by}
 use Rattle.std.proofs.lemmas.Bool.{cases_lt, eqb-true, ne_eqb, or_cases}
@@ -26,34 +27,25 @@ abbrev PostedAs : Bool → Status → ℕ → Type 0
 PostedAs zeroth s p = (s ≡ Absent → p ≡ 0) × (s ≢ Absent → p ≡ posts_wanted zeroth)
 
 first_posted : (b : Bool) → PostedAs b (cond b Open Absent) 0
-first_posted true = (λ e. refl, λ n. refl)
-first_posted false = (λ e. refl, λ n. absurd (n refl))
+first_posted b = grind (arith, common_steps)
 
 post_posted : (b zeroth : Bool) (s : Status) (p : ℕ) → PostedAs zeroth s p → (b ≡ true → s ≡ Absent) → (b ≡ true → zeroth ≡ false)
     → PostedAs zeroth (cond b Open s) (cond b (p + 1) p)
-post_posted true zeroth s p x is nz = (λ e. absurd (cc e), λ n. ap (λ m. m + 1) (x.0 (is refl)) ∙ ap posts_wanted (sym (nz refl)))
-post_posted false zeroth s p x is nz = x
+post_posted b zeroth s p h1 h2 h3 = grind (arith, common_steps)
 
 keep_posted : (b zeroth : Bool) (t s : Status) (p : ℕ) → PostedAs zeroth s p → t ≢ Absent → (b ≡ true → s ≢ Absent)
     → PostedAs zeroth (cond b t s) p
-keep_posted true zeroth t s p x n sn = (λ e. absurd (n e), λ _. x.1 (sn refl))
-keep_posted false zeroth t s p x n sn = x
+keep_posted b zeroth t s p h1 h2 h3 = grind (arith, common_steps)
 
 -- ---- each number of a range once
 
 not_before : (p a n : ℕ) → p < a → times p (range_with_len a n) ≡ 0
 not_before p a zero l = refl
-not_before p a (suc n) l =
-    let rest = not_before p (a + 1) n (omega arith) in
-    let here : only p 1 a ≡ 0 = at_other p a 1 0 (λ e. absurd (omega arith)) in
-    omega arith
+not_before p a (suc n) l = grind (arith, common_steps, only, at_other, not_before p (a + 1) n (omega arith))
 
 not_after : (p a n : ℕ) → a + n ≤ p → times p (range_with_len a n) ≡ 0
 not_after p a zero l = refl
-not_after p a (suc n) l =
-    let rest = not_after p (a + 1) n (omega arith) in
-    let here : only p 1 a ≡ 0 = at_other p a 1 0 (λ e. absurd (omega arith)) in
-    omega arith
+not_after p a (suc n) l = grind (arith, common_steps, only, at_other, not_after p (a + 1) n (omega arith))
 
 once_within : (p a n : ℕ) → a ≤ p → p < a + n → times p (range_with_len a n) ≡ 1
 once_within p a zero l b = absurd (omega arith)
@@ -70,14 +62,10 @@ once_within p a (suc n) l b = at (cases_lt a p) (λ low. once_within p (a + 1) n
         omega arith
 
 one_more : (b : Bool) (m n : ℕ) → m ≡ n → cond b 1 0 + m ≡ cond b (n + 1) n
-one_more true m n e = omega arith
-one_more false m n e = omega arith
+one_more b m n h1 = grind (arith, common_steps)
 
 ended_once : (s : Status) (a b c : ℕ) → Counts s a b c → s ≢ Absent → s ≢ Open → ((w : ℕ) → s ≢ Claimed w) → c ≡ 1
-ended_once Absent a b c x n o l = absurd (n refl)
-ended_once Open a b c x n o l = absurd (o refl)
-ended_once (Claimed w) a b c x n o l = absurd (l w refl)
-ended_once _ a b c x n o l = x.2
+ended_once s a b c h1 h2 h3 h4 = grind (arith, common_steps)
 
 never_ended : (s : Status) (a b c : ℕ) → Counts s a b c → s ≡ Absent → c ≡ 0
 never_ended s a b c x e = let y = subst (λ t. Counts t a b c) e x in y.2
@@ -100,8 +88,7 @@ by_places d get (x ∷ xs) a same =
 
 sum_flat : {A B : Type 0} (f : B → ℕ) (g : A → List B) (xs : List A) → sum_by f (flat_map g xs) ≡ sum_by (λ x. sum_by f (g x)) xs
 sum_flat f g [] = refl
-sum_flat f g (x ∷ xs) = sum_by-append f (g x) (flat_map g xs) ∙ ap (λ n. sum_by f (g x) + n) (sum_flat f g xs)
-    ∙ sym (sum_by-cons (λ y. sum_by f (g y)) x xs)
+sum_flat f g (x ∷ xs) = grind (arith, common_steps, sum_by-append, sum_by-cons, sum_flat f g xs)
 
 abbrev number_of : {R : Type 0} → (ℕ × Ended R) → ℕ
 number_of x = x.0
@@ -112,40 +99,30 @@ others_ended k [] a = tt
 others_ended k (x ∷ xs) a = (a.0, others_ended k xs a.1)
 
 same_length : {R : Type 0} (xs : List (ℕ × Ended R)) → length (map number_of xs) ≡ length xs
-same_length [] = refl
-same_length (x ∷ xs) = ap suc (same_length xs)
+same_length xs = grind (arith, common_steps)
 
 with_rows : {R : Type 0} (d : Ended R) (rows : List (Ended R)) (xs : List (ℕ × Ended R))
     → AllByRecursion (λ x. slice_get rows x.0 ≡ Some x.1) xs → map (λ k. (k, or_else d (slice_get rows k))) (map number_of xs) ≡ xs
 with_rows d rows [] a = refl
-with_rows d rows (x ∷ xs) a =
-    ap (λ o. (x.0, or_else d o) ∷ map (λ k. (k, or_else d (slice_get rows k))) (map number_of xs)) a.0
-    ∙ ap (λ ys. x ∷ ys) (with_rows d rows xs a.1)
+with_rows d rows (x ∷ xs) a = grind (arith, common_steps, with_rows d rows xs a.1)
 
 below_any : {R : Type 0} (c q : ℕ) (xs : List (ℕ × Ended R)) → AllByRecursion (λ x. x.0 < c) xs
     → list_any (λ y. q == y) (map number_of xs) ≡ true → q < c
 below_any c q [] a e = absurd (cc e)
-below_any c q (x ∷ xs) a e = at (or_cases (q == x.0) (list_any (λ y. q == y) (map number_of xs)) e) (below_any c q xs a.1)
-  where
-    at : ((q == x.0) ≡ true) ⊎ (list_any (λ y. q == y) (map number_of xs) ≡ true)
-        → (list_any (λ y. q == y) (map number_of xs) ≡ true → q < c) → q < c
-    at (inl t) rec = subst (λ z. z < c) (sym (eqb-true q x.0 t)) a.0
-    at (inr t) rec = rec t
+below_any c q (x ∷ xs) a e = grind (arith, common_steps, or_cases, eqb-true, below_any c q xs a.1)
 
 module _ {J R : Type 0} where
   -- a number is posted once if it is not absent, and 0 never
   pub posted_as : (c n : ℕ) (h : List (Event J R)) → IsLegal c n h → (k : ℕ) → PostedAs (k == 0) (status h k) (posts_of k h)
   posted_as c n [] l k = first_posted (k == 0)
   posted_as c n (Post w p i j ∷ h) l k =
-      let above : p < i = l.2.3 in
-      post_posted (k == i) (k == 0) _ _ (posted_as c n h l.0 k) (named h k i Absent l.2.1)
-      (λ e. let is = eqb-true k i e in ne_eqb k 0 (λ z. absurd (omega arith)))
-  posted_as c n (Claim w i j ∷ h) l k = keep_posted (k == i) (k == 0) (Claimed w) _ _ (posted_as c n h l.0 k) (λ e. absurd (cc e))
-      (λ e a. let x = sym (named h k i Open l.2.0 e) ∙ a in absurd (cc x))
-  posted_as c n (Return w i r ∷ h) l k = keep_posted (k == i) (k == 0) Returned _ _ (posted_as c n h l.0 k) (λ e. absurd (cc e))
-      (λ e a. let x = sym (named h k i (Claimed w) l.2 e) ∙ a in absurd (cc x))
-  posted_as c n (Fault w i r ∷ h) l k = keep_posted (k == i) (k == 0) Faulted _ _ (posted_as c n h l.0 k) (λ e. absurd (cc e))
-      (λ e a. let x = sym (named h k i (Claimed w) l.2.0 e) ∙ a in absurd (cc x))
+      grind (arith, common_steps, first_posted, post_posted, named, eqb-true, ne_eqb, keep_posted, posted_as c n h l.0 k)
+  posted_as c n (Claim w i j ∷ h) l k =
+      grind (arith, common_steps, first_posted, post_posted, named, eqb-true, ne_eqb, keep_posted, posted_as c n h l.0 k)
+  posted_as c n (Return w i r ∷ h) l k =
+      grind (arith, common_steps, first_posted, post_posted, named, eqb-true, ne_eqb, keep_posted, posted_as c n h l.0 k)
+  posted_as c n (Fault w i r ∷ h) l k =
+      grind (arith, common_steps, first_posted, post_posted, named, eqb-true, ne_eqb, keep_posted, posted_as c n h l.0 k)
   posted_as c n (Over w ∷ h) l k = posted_as c n h l.0 k
 
   -- so each number is posted once
@@ -157,8 +134,7 @@ module _ {J R : Type 0} where
   )
 
   larger_allowed : (c d : ℕ) (h : List (Event J R)) (e : Event J R) → c ≤ d → IsAllowed c h e → IsAllowed d h e
-  larger_allowed c d h (Post w p i j) le a = (a.0, a.1, omega (arith, a.2), a.3)
-  larger_allowed c d h _ le a = a
+  larger_allowed c d h e h1 h2 = grind (arith, common_steps)
 
   -- a legal history is legal for a larger board
   pub stays_legal : StaysLegal J R
@@ -211,16 +187,11 @@ module _ {J R : Type 0} where
 
   same_by : (e : Event J R) → ((q : List (Event J R)) → ends (e ∷ q) ≡ ends q) → (h : List (Event J R)) (a n : ℕ)
       → ends_by a n (e ∷ h) ≡ ends_by a n h
-  same_by e none h a zero = refl
-  same_by e none h a (suc n) =
-      ap (λ xs. xs ++ ends_by (a + 1) n (e ∷ h)) (no_end e (part a h) (none (part a h)) (worker_of e == a))
-      ∙ ap (λ xs. ends (part a h) ++ xs) (same_by e none h (a + 1) n)
+  same_by e h1 h a n = grind (arith, common_steps, no_end)
 
   outside : (e : Event J R) (h : List (Event J R)) (a n : ℕ) → worker_of e < a → ends_by a n (e ∷ h) ≡ ends_by a n h
   outside e h a zero l = refl
-  outside e h a (suc n) l =
-      ap (λ m. ends m ++ ends_by (a + 1) n (e ∷ h)) (part_else a h e (λ s. absurd (omega arith)))
-      ∙ ap (λ xs. ends (part a h) ++ xs) (outside e h (a + 1) n (omega arith))
+  outside e h a (suc n) l = grind (arith, common_steps, part_else, outside e h (a + 1) n (omega arith))
 
   one_by : (e : Event J R) (x : ℕ × Ended R) → ((q : List (Event J R)) → ends (e ∷ q) ≡ x ∷ ends q) → (h : List (Event J R)) (a n : ℕ)
       → a ≤ worker_of e → worker_of e < a + n

@@ -1,16 +1,17 @@
 -- A look at a word keeps the row of words, and so does a claim of an open number.
+use Rattle.std.proofs.Common.{rules}
+use Rattle.std.proofs.lemmas.Grind.{common_steps}
 use Rattle.std.proofs.Common.{◌≡◌, ◌≢◌, ℕ, eqb, subst, ◌+◌, ◌*◌, ◌<◌, ◌≤◌, ◌⊎◌, Bool, true, false, List, [], ◌∷◌, length, get_or, set}
 use Rattle.std.proofs.{Common.{sym, refl, ap, ◌∙◌, inl, inr, ⊎_elim, arith, length-set, Option, Some, None}, lemmas.Bool.Decides.nat_tests}
 use mathlib.Core.{Logic.dite, Option.{some, none}}
-use native.Mathlib.Decide.{ℕ_discrete, dec_lt}
 use lib.{ListN.get_elem?, Seq.set-get_or}
 use prog.Atomic.{either}
 use Rattle.std.specs.Prelude.{MatchBool}
 use Rattle.atomic_table.specs.Table.{State, Act, keeps, takes, stepped, step, Allows, Valid, carried_after}
 use Rattle.atomic_table.proofs.Lists.{set_else, exchanged}
 use Rattle.lc_board.specs.{State.{Absent, Open, Claimed, status}, Part.part, LegalHistory.{IsAllowed, IsLegal}, Holding.holding}
-use Rattle.lc_board.specs.{Growth.{rank, put, job_at}, WordCode.{shown, code, word_of, is_absent, is_open, has_ended}, WordRow.Seated}
-use Rattle.lc_board.specs.WordRow.{SlotHolds, Knows, IsRow}
+use Rattle.lc_board.specs.{Growth.{rank, put, job_at}, WordCode.{shown, code, word_of, is_absent, is_open, has_ended}, WordHistory.Seated}
+use Rattle.lc_board.specs.WordHistory.{SlotHolds, Knows, ShowsHistory}
 use Rattle.lc_board.specs.declared.words.{coding.Word.Word, view.{Slot.{Slot, TheVariants.Job}, View.View}}
 use Rattle.lc_board.specs.{declared.event.Event.{Event, TheVariants.{Claim, Over}}, WordSteps.{ExtendsFairly, AddsEvent, SomeHolds, Finds}}
 use Rattle.lc_board.specs.WordSteps.{HasLooked, looked, TakesJob, claimed, low_after, TakesStep, last_look}
@@ -31,46 +32,28 @@ St J R = State (Slot J R) (View J R)
 
 module _ {J R : Type 0} where
   -- nothing changes but what the pass has seen
-  pub next_same : (root : Option J) (workers : ℕ) (s : St J R) (r : IsRow root workers s) (worker : ℕ)
+  pub next_same : (root : Option J) (workers : ℕ) (s : St J R) (r : ShowsHistory root workers s) (worker : ℕ)
       → IsNext root workers s r worker r.history r.faces s.words s.homes
-  next_same root workers s r worker = record {
-    long = refl;
-    wide = refl;
-    state = r.state;
-    grows = whole r.history;
-    parts = λ u ne. refl;
-    lies = r.lies;
-    busy = r.busy;
-    apart = λ u ne. apart_same u r.faces;
-    more = λ k e. e;
-  }
+  next_same root workers s r worker = grind (arith, common_steps, whole, apart_same)
 
   -- so what it has seen is its own as before
-  pub told_same : (root : Option J) (workers : ℕ) (s : St J R) (r : IsRow root workers s) (me : ℕ) (v : View J R)
+  pub told_same : (root : Option J) (workers : ℕ) (s : St J R) (r : ShowsHistory root workers s) (me : ℕ) (v : View J R)
       → Knows root workers r.history r.faces r.owner me v → IsTold v.worker r.history r.faces v.mine v.drawn v.low v.front
-  told_same root workers s r me v k = record {
-    own = k.mine;
-    drew = k.drew;
-    draws = k.draws;
-    ended = still_ended root workers s r me v k r.history r.state.legal (whole r.history);
-    used = k.front;
-  }
+  told_same root workers s r me v h1 = search (rules, arith, still_ended, whole)
 
   -- the word of a number says what the number is
-  pub face_here : (root : Option J) (workers : ℕ) (s : St J R) (r : IsRow root workers s) (i : ℕ) → i < length s.homes
+  pub face_here : (root : Option J) (workers : ℕ) (s : St J R) (r : ShowsHistory root workers s) (i : ℕ) → i < length s.homes
       → word_of (get_or s.words i 0) ≡ r.faces i
   face_here root workers s r i near = ap word_of (r.state.shows i near) ∙ decoded (r.faces i)
 
   -- a step that writes the word that was there writes nothing
   pub unwritten : (root : Option J) (workers me : ℕ) (s : St J R) (i : ℕ) (w : View J R)
-      → IsRow root workers record { words = s.words; homes = s.homes; views = set s.views me w }
-      → IsRow root workers record { words = set s.words i (get_or s.words i 0); homes = s.homes; views = set s.views me w }
-  unwritten root workers me s i w r =
-      subst (λ (ws : List ℕ). IsRow root workers record { words = ws; homes = s.homes; views = set s.views me w })
-      (sym (set-get_or s.words i 0)) r
+      → ShowsHistory root workers record { words = s.words; homes = s.homes; views = set s.views me w }
+      → ShowsHistory root workers record { words = set s.words i (get_or s.words i 0); homes = s.homes; views = set s.views me w }
+  unwritten root workers me s i w h1 = grind (arith, common_steps, set-get_or)
 
   -- what a look tells of a number is so of the history
-  pub finds : (root : Option J) (workers : ℕ) (s : St J R) (r : IsRow root workers s) (i : ℕ) (h' : List (Event J R)) (w : View J R)
+  pub finds : (root : Option J) (workers : ℕ) (s : St J R) (r : ShowsHistory root workers s) (i : ℕ) (h' : List (Event J R)) (w : View J R)
       → IsLegal (length s.homes) workers h' → ((k : ℕ) → status w.seen k ≡ status r.history k)
       → part w.worker h' ≡ w.mine → w.seen ≡ h' → Finds i (r.faces i) w
   finds root workers s r i h' w legal same own is_h = found (r.faces i) refl
@@ -98,7 +81,7 @@ module _ {J R : Type 0} where
   abbrev over_view : View J R → ℕ → List (Event J R) → ℕ → View J R
   over_view v i h low = record v { seen = Over v.worker ∷ h; mine = Over v.worker ∷ v.mine; low = low; steps = i ∷ v.steps }
 
-  module _ (root : Option J) (workers me i : ℕ) (v : View J R) (lives : v.live ≡ true) (s : St J R) (r : IsRow root workers s)
+  module _ (root : Option J) (workers me i : ℕ) (v : View J R) (lives : v.live ≡ true) (s : St J R) (r : ShowsHistory root workers s)
       (at : get_elem? s.views me ≡ some v) (near : i < length s.homes) where
     km : Knows root workers r.history r.faces r.owner me v
     km = r.each_seat me v at lives
@@ -110,9 +93,7 @@ module _ {J R : Type 0} where
     ended_here e = ap rank (r.state.agrees i) ∙ ended_rank (r.faces i) e
 
     low_now : (z : ℕ) → z < low_after (length s.homes) i v.low (r.faces i) → rank (status r.history z) ≡ 3
-    low_now z below = ⊎_elim (λ (x : z < v.low). ended_now z x)
-        (λ (x : (z ≡ i) × (has_ended (r.faces i) ≡ true)). ap (λ y. rank (status r.history y)) x.0 ∙ ended_here x.1)
-        (low_tells (length s.homes) i v.low (r.faces i) z below)
+    low_now z h1 = grind (arith, common_steps, ended_now, ended_here, low_tells)
 
     beyond_now : (z : ℕ) → length s.homes ≤ z → status r.history z ≡ Absent
     beyond_now z far = r.state.agrees z ∙ ap shown (r.state.beyond z far)
@@ -125,12 +106,7 @@ module _ {J R : Type 0} where
 
     module _ (last : (v.low ≡ i) × ((is_absent (r.faces i) ≡ true) ⊎ ((has_ended (r.faces i) ≡ true) × (i + 1 ≡ length s.homes)))) where
       all_done : (z : ℕ) → (rank (status r.history z) ≡ 3) ⊎ (status r.history z ≡ Absent)
-      all_done z = dite (dec_lt z v.low) (λ l. inl (ended_now z l)) (λ n. ⊎_elim
-          (λ (e : is_absent (r.faces i) ≡ true). let le : i ≤ z = (let x = last.0 in omega arith) in
-          inr (r.state.agrees z ∙ ap shown (r.state.together i z le (absent_is (r.faces i) e))))
-          (λ (e : (has_ended (r.faces i) ≡ true) × (i + 1 ≡ length s.homes)). dite (ℕ_discrete z i)
-          (λ is. inl (ap (λ y. rank (status r.history y)) is ∙ ended_here e.0))
-          (λ ne. let x = last.0 in let y = e.1 in inr (beyond_now z (omega arith)))) last.1)
+      all_done z = grind (arith, common_steps, ended_now, absent_is, ended_here, beyond_now)
 
       over_allowed : IsAllowed (length s.homes) r.history (Over v.worker)
       over_allowed z = ⊎_elim (λ (e : rank (status r.history z) ≡ 3). (
@@ -163,17 +139,11 @@ module _ {J R : Type 0} where
       }
 
       over_told : IsTold v.worker (Over v.worker ∷ r.history) r.faces (Over v.worker ∷ v.mine) v.drawn mark v.front
-      over_told = record {
-        own = part_own v.worker r.history (Over v.worker) refl ∙ ap (λ z. Over v.worker ∷ z) km.mine;
-        drew = km.drew;
-        draws = km.draws;
-        ended = low_now;
-        used = km.front;
-      }
+      over_told = grind (arith, common_steps, part_own, km, low_now)
 
     -- the step, by whether it is the last look
     pub misses : (b : Bool) → last_look (length s.homes) i v.low (r.faces i) ≡ b
-        → (w : View J R) × IsRow root workers record { words = s.words; homes = s.homes; views = set s.views me w }
+        → (w : View J R) × ShowsHistory root workers record { words = s.words; homes = s.homes; views = set s.views me w }
         × HasLooked (length s.homes) i (r.faces i) v w × TakesStep i v w
     misses false is = let did = steps_on root workers s r me v at lives i r.history r.faces s.words s.homes v.mine v.drawn mark v.front
         (next_same root workers s r v.worker) looked_told in let w = looked_view v i r.history mark in
@@ -192,7 +162,7 @@ module _ {J R : Type 0} where
 
   -- a look keeps the row of words
   pub looks : (root : Option J) (workers slots me : ℕ) (m : Seated J R) (i : ℕ) → m.0.live ≡ true → i < slots
-      → Allows (IsRow root workers) slots me m i (λ n. n) (looked (step slots i 0 0 none) m)
+      → Allows (ShowsHistory root workers) slots me m i (λ n. n) (looked (step slots i 0 0 none) m)
   looks root workers slots me m i lives near s r len at fits = let v = m.0 in let near' : i < length s.homes = omega arith in
       let did = misses root workers me i v lives s r at near' (last_look (length s.homes) i v.low (r.faces i)) refl in
       let saw = subst (λ (z : ℕ × Word). HasLooked z.0 i z.1 v did.0) (λ k. (len k, sym (face_here root workers s r i near') k)) did.2 in
@@ -203,7 +173,7 @@ module _ {J R : Type 0} where
 
   -- a claim takes the job that was posted
   module _ (root : Option J) (workers me i : ℕ) (v : View J R) (lives : v.live ≡ true) (free : holding v.mine ≡ None) where
-    module _ (s : St J R) (r : IsRow root workers s) (at : get_elem? s.views me ≡ some v) (near : i < length s.homes)
+    module _ (s : St J R) (r : ShowsHistory root workers s) (at : get_elem? s.views me ≡ some v) (near : i < length s.homes)
         (open_there : r.faces i ≡ word.Open) (j : J) (lies : get_elem? s.homes i ≡ some (some (Job j)))
         (posted_there : job_at root r.history i ≡ Some j) where
       abbrev h : List (Event J R)
@@ -268,11 +238,11 @@ module _ {J R : Type 0} where
   -- so does an exchange that claims, whether it takes place or not
   pub claims : (root : Option J) (workers slots me : ℕ) (m : Seated J R) (i new : ℕ) → m.0.live ≡ true → i < slots
       → holding m.0.mine ≡ None → new ≡ 5 + 2 * m.0.worker
-      → Allows (IsRow root workers) slots me m i (λ n. either (eqb n 1) new n) (claimed (step slots i 1 new none) m)
+      → Allows (ShowsHistory root workers) slots me m i (λ n. either (eqb n 1) new n) (claimed (step slots i 1 new none) m)
   claims root workers slots me m i new lives near free is s r len at fits = let v = m.0 in let z : ℕ = get_or s.words i 0 in
       let near' : i < length s.homes = omega arith in
       let G : ℕ → Type 0 = λ n. (w : View J R) × (a : Act (Slot J R)) × Valid s.homes m.1 a
-      × IsRow root workers (stepped s i n me m.1 w a) × claimed (step slots i 1 new none) m z (w, carried_after m.1 a) in
+      × ShowsHistory root workers (stepped s i n me m.1 w a) × claimed (step slots i 1 new none) m z (w, carried_after m.1 a) in
       exchanged z 1 new G
       (λ (hit : z ≡ 1). let there : r.faces i ≡ word.Open = sym (face_here root workers s r i near') ∙ ap word_of hit in
       let l = subst (λ c. SlotHolds root r.history s.homes i c) there (r.lies i near') in
@@ -286,7 +256,7 @@ module _ {J R : Type 0} where
         w,
         takes i (Job l.0),
         l.1,
-        subst (λ n. IsRow root workers (stepped s i n me m.1 w (takes i (Job l.0)))) (sym is) did.0,
+        subst (λ n. ShowsHistory root workers (stepped s i n me m.1 w (takes i (Job l.0)))) (sym is) did.0,
         subst (λ b. MatchBool b (TakesJob (step slots i 1 new none) m (w, carried_after m.1 (takes i (Job l.0))))
             (looked (step slots i 1 new none) m z (w, carried_after m.1 (takes i (Job l.0))))) (sym (ap (λ n. is_open (word_of n)) hit))
             (l.0, (refl, refl, refl, refl, refl, refl), refl, refl, refl, refl, adds, refl),

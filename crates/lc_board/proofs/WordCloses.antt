@@ -1,4 +1,5 @@
 -- What a closed row of words says of one history, and of the rows that are taken out of it.
+use Rattle.std.proofs.lemmas.Grind.{common_steps}
 use Rattle.std.proofs.Common.{◌≡◌, ◌≢◌, ℕ, zero, suc, ◌+◌, ◌<◌, ◌≤◌, ◌==◌, ◌⊎◌, Bool, true, false, cond, ltb, List, [], ◌∷◌, ◌++◌, length}
 use Rattle.std.proofs.Common.{get_or, slice_get, sym, refl, ap, ◌∙◌, subst, inl, inr, ⊎_elim, arith, Option, Some, None}
 use Rattle.std.proofs.lemmas.{Bool.{eqb-true, Decides.nat_tests}, Option.{slice_get_past, slice_get_within}}
@@ -10,10 +11,10 @@ use Rattle.atomic_table.specs.Table.{Final, Seen}
 use Rattle.lc_board.specs.{State.{Status, Absent, Open, Claimed, Returned, Faulted, status}, Part.part, LegalHistory.{IsLegal, IsOver}}
 use Rattle.lc_board.specs.{RowsInPlace.{job_posted, job_got, row_given}, Laws.GivenAs, Pass.Pass}
 use Rattle.lc_board.specs.{ClosedBoard.{Shows, IsUnended, Settled, Unfinished, Finished}, Growth.{rank, job_at, IsMatched}}
-use Rattle.lc_board.specs.{WordCode.{shown, word_of, is_absent, has_ended}, WordRow.{Homes, SlotHolds, Knows, ShowsState, IsRow}}
+use Rattle.lc_board.specs.{WordCode.{shown, word_of, is_absent, has_ended}, WordHistory.{Homes, SlotHolds, Knows, ShowsState, ShowsHistory}}
 use Rattle.lc_board.specs.declared.{words.coding.Word.Word, event.Event.{Event, TheVariants.{Post, Claim, Return, Fault, Over}}}
 use Rattle.lc_board.specs.{declared.{answers.Ended.Ended, words.view.{Slot.{Slot, TheVariants.Row}, View.View}}, WordSteps.{merged, larger}}
-use Rattle.lc_board.specs.WordClose.{words_promises, word_at, ended_as, Tells, HasTaken, IsClosedRow, EndedBelow, HasRows, TakesRows}
+use Rattle.lc_board.specs.WordClose.{words_promises, word_at, ended_as, Tells, HasTaken, ShowsClosedHistory, EndedBelow, HasRows, TakesRows}
 use Rattle.lc_board.specs.declared.words.coding.Word.TheVariants as word
 use Rattle.lc_board.proofs.{Places.{at_same, at_other, apart, get_there, get_push_same, get_push_other}, NumbersOnce.ended_has_row}
 use Rattle.lc_board.proofs.WordCodes.{decoded, absent_is, ended_rank}
@@ -30,28 +31,18 @@ word_here codes i a e = ap word_of (index_at codes i a e)
 -- the worker of a claim is one of the board's
 named_by : (n w : ℕ) (b : Bool) (u : ℕ) (s : Status) → (b ≡ true → u ≡ w → w < n) → (s ≡ Claimed w → w < n)
     → cond b (Claimed u) s ≡ Claimed w → w < n
-named_by n w true u s a c e = a refl (cc e)
-named_by n w false u s a c e = c e
+named_by n w b u s h1 h2 h3 = grind (arith, common_steps)
 
 not_named : (n w : ℕ) (b : Bool) (x s : Status) → x ≢ Claimed w → (s ≡ Claimed w → w < n) → cond b x s ≡ Claimed w → w < n
-not_named n w true x s ne c e = absurd (ne e)
-not_named n w false x s ne c e = c e
+not_named n w b x s h1 h2 h3 = grind (arith, common_steps)
 
 -- a number is claimed by a worker that there is
 pub claimed_member : {J R : Type 0} (c n : ℕ) (h : List (Event J R)) → IsLegal c n h → (k w : ℕ) → status h k ≡ Claimed w → w < n
-claimed_member c n [] l k w e = go (k == 0) e
-  where
-    go : (b : Bool) → cond b Open Absent ≡ Claimed w → w < n
-    go true x = absurd (cc x)
-    go false x = absurd (cc x)
-claimed_member c n (Post v p i j ∷ h) l k w e =
-    not_named n w (k == i) Open (status h k) (λ x. absurd (cc x)) (claimed_member c n h l.0 k w) e
-claimed_member c n (Claim v i j ∷ h) l k w e =
-    named_by n w (k == i) v (status h k) (λ _ is. subst (λ z. z < n) is l.1) (claimed_member c n h l.0 k w) e
-claimed_member c n (Return v i r ∷ h) l k w e =
-    not_named n w (k == i) Returned (status h k) (λ x. absurd (cc x)) (claimed_member c n h l.0 k w) e
-claimed_member c n (Fault v i r ∷ h) l k w e =
-    not_named n w (k == i) Faulted (status h k) (λ x. absurd (cc x)) (claimed_member c n h l.0 k w) e
+claimed_member c n [] l k w e = grind (arith, common_steps, not_named, named_by)
+claimed_member c n (Post v p i j ∷ h) l k w e = grind (arith, common_steps, not_named, named_by, claimed_member c n h l.0 k w)
+claimed_member c n (Claim v i j ∷ h) l k w e = grind (arith, common_steps, not_named, named_by, claimed_member c n h l.0 k w)
+claimed_member c n (Return v i r ∷ h) l k w e = grind (arith, common_steps, not_named, named_by, claimed_member c n h l.0 k w)
+claimed_member c n (Fault v i r ∷ h) l k w e = grind (arith, common_steps, not_named, named_by, claimed_member c n h l.0 k w)
 claimed_member c n (Over v ∷ h) l k w e = claimed_member c n h l.0 k w e
 
 module _ {J R : Type 0} where
@@ -63,32 +54,23 @@ module _ {J R : Type 0} where
 
   got_keep : (root : Option J) (s : Status) (h g : List (Event J R)) (k : ℕ) → job_got g k ≡ job_got h k
       → job_at root g k ≡ job_at root h k → GotAs root s h k → GotAs root s g k
-  got_keep root Absent h g k a b x = tt
-  got_keep root Open h g k a b x = tt
-  got_keep root _ h g k a b x = a ∙ (x ∙ sym b)
+  got_keep root s h g k h1 h2 h3 = grind (arith, common_steps)
 
   got_post : (root : Option J) (w p i : ℕ) (j : J) (h : List (Event J R)) (k : ℕ) (b : Bool) → (k == i) ≡ b
       → GotAs root (status h k) h k → GotAs root (cond b Open (status h k)) (Post w p i j ∷ h) k
-  got_post root w p i j h k true e x = tt
-  got_post root w p i j h k false e x =
-      got_keep root (status h k) h (Post w p i j ∷ h) k refl (at_other k i (Some j) (job_at root h k) (apart k i e)) x
+  got_post root w p i j h k b h1 h2 = grind (arith, common_steps, got_keep, at_other, apart)
 
   got_claim : (root : Option J) (w i : ℕ) (j : J) (h : List (Event J R)) (k : ℕ) (b : Bool) → (k == i) ≡ b → job_at root h i ≡ Some j
       → GotAs root (status h k) h k → GotAs root (cond b (Claimed w) (status h k)) (Claim w i j ∷ h) k
-  got_claim root w i j h k true e m x =
-      at_same k i (Some j) (job_got h k) (eqb-true k i e) ∙ sym (ap (λ z. job_at root h z) (eqb-true k i e) ∙ m)
-  got_claim root w i j h k false e m x =
-      got_keep root (status h k) h (Claim w i j ∷ h) k (at_other k i (Some j) (job_got h k) (apart k i e)) refl x
+  got_claim root w i j h k b h1 h2 h3 = grind (arith, common_steps, at_same, eqb-true, got_keep, at_other, apart)
 
   got_end : (root : Option J) (w i : ℕ) (x : Status) (h g : List (Event J R)) (k : ℕ) (b : Bool) → (k == i) ≡ b → status h i ≡ Claimed w
       → (GotAs root (Claimed w) h k → GotAs root x g k) → job_got g k ≡ job_got h k → job_at root g k ≡ job_at root h k
       → GotAs root (status h k) h k → GotAs root (cond b x (status h k)) g k
-  got_end root w i x h g k true e c f a d y = f (subst (λ s. GotAs root s h k) (ap (λ z. status h z) (eqb-true k i e) ∙ c) y)
-  got_end root w i x h g k false e c f a d y = got_keep root (status h k) h g k a d y
+  got_end root w i x h g k b h1 h2 h3 h4 h5 h6 = grind (arith, common_steps, eqb-true, got_keep)
 
   first_got : (root : Option J) (k : ℕ) (h : List (Event J R)) (b : Bool) → GotAs root (cond b Open Absent) h k
-  first_got root k h true = tt
-  first_got root k h false = tt
+  first_got root k h b = grind (arith, common_steps)
 
   got_right : (c n : ℕ) (root : Option J) (h : List (Event J R)) → IsLegal c n h → IsMatched root h → (k : ℕ) → GotAs root (status h k) h k
   got_right c n root [] l m k = first_got root k [] (k == 0)
@@ -100,55 +82,27 @@ module _ {J R : Type 0} where
       got_end root w i Faulted h (Fault w i r ∷ h) k (k == i) refl l.2.0 (λ x. x) refl refl (got_right c n root h l.0 m.0 k)
   got_right c n root (Over w ∷ h) l m k = got_keep root (status h k) h (Over w ∷ h) k refl refl (got_right c n root h l.0 m.0 k)
 
-  posted_same : (root : J) (h : List (Event J R)) (k : ℕ) → job_at (Some root) h k ≡ job_posted root h k
-  posted_same root [] k = refl
-  posted_same root (Post w p i j ∷ h) k = ap (λ z. cond (k == i) (Some j) z) (posted_same root h k)
-  posted_same root (_ ∷ h) k = posted_same root h k
-
   handed_by : (root : J) (s : Status) (h : List (Event J R)) (k : ℕ) → rank s ≡ 3 → GotAs (Some root) s h k
       → job_got h k ≡ job_posted root h k
-  handed_by root Returned h k e x = x ∙ posted_same root h k
-  handed_by root Faulted h k e x = x ∙ posted_same root h k
-  handed_by root _ h k e x = absurd (omega arith)
-
-ended_over : (s : Status) → rank s ≡ 3 → (s ≢ Open) × ((w : ℕ) → s ≢ Claimed w)
-ended_over s e = (λ x. let y = sym e ∙ ap rank x in absurd (omega arith), λ w x. let y = sym e ∙ ap rank x in absurd (omega arith))
-
-absent_over : (s : Status) → s ≡ Absent → (s ≢ Open) × ((w : ℕ) → s ≢ Claimed w)
-absent_over s e = (λ x. let y : Absent ≡ Open = sym e ∙ x in absurd (cc y), λ w x. let y : Absent ≡ Claimed w = sym e ∙ x in absurd (cc y))
+  handed_by root s h k h1 h2 = grind (arith, common_steps)
 
 ended_there : (s : Status) → rank s ≡ 3 → s ≢ Absent
 ended_there s e x = let y = sym e ∙ ap rank x in absurd (omega arith)
 
-not_unended : (s : Status) → rank s ≡ 3 → ¬ IsUnended s
-not_unended Open e x = absurd (omega arith)
-not_unended (Claimed w) e x = absurd (omega arith)
-not_unended _ e x = x
-
-open_face : (c : Word) → ((u : ℕ) → c ≢ word.Drawn u) → is_absent c ≡ false → has_ended c ≡ false → IsUnended (shown c)
-open_face word.Open n a e = tt
-open_face (word.Drawn w) n a e = absurd (n w refl)
-open_face (word.Claimed w) n a e = tt
-open_face _ n a e = absurd cc
-
 shows_given : {R : Type 0} (s : Status) (o : Option (Ended R)) → GivenAs s o → s ≢ Open → ((w : ℕ) → s ≢ Claimed w) → Shows s o
-shows_given Absent o g a b = subst (λ z. Shows Absent z) (sym g) refl
-shows_given Open o g a b = absurd (a refl)
-shows_given (Claimed w) o g a b = absurd (b w refl)
-shows_given x o g a b = subst (λ z. Shows x z) (sym g.1) refl
+shows_given s o h1 h2 h3 = grind (arith, common_steps)
 
 none_given : {R : Type 0} (s : Status) (o : Option (Ended R)) → s ≡ Absent → GivenAs s o → o ≡ None
 none_given s o e g = subst (λ z. GivenAs z o) e g
 
 module _ {J R : Type 0} (root : J) (workers : ℕ) (passes : List (Pass J R)) (ws : List ℕ) (xs : List (Slot J R))
-    (r : IsClosedRow (Some root) workers passes ws xs) where
+    (r : ShowsClosedHistory (Some root) workers passes ws xs) where
   -- the word of a number says what the number is
   face_at : (k : ℕ) → k < length xs → word_at ws k ≡ r.faces k
   face_at k low = ap word_of (r.state.shows k low) ∙ decoded (r.faces k)
 
   ended_at : (n k : ℕ) → n ≤ length xs → EndedBelow n ws → k < n → rank (status r.history k) ≡ 3
-  ended_at n k small e below =
-      ap rank (r.state.agrees k) ∙ ended_rank (r.faces k) (ap has_ended (sym (face_at k (omega (arith, below, small)))) ∙ e k below)
+  ended_at n k h1 h2 h3 = grind (arith, common_steps, ended_rank, face_at)
 
   -- the row at a number that has ended
   pub lies_at : (n k : ℕ) → n ≤ length xs → EndedBelow n ws → k < n
@@ -163,19 +117,14 @@ module _ {J R : Type 0} (root : J) (workers : ℕ) (passes : List (Pass J R)) (w
   all_lie n small e k below = let p = lies_at n k small e below in (p.0, p.1)
 
   absent_from : (n : ℕ) → n ≤ length xs → (n ≡ length xs) ⊎ (is_absent (word_at ws n) ≡ true) → (k : ℕ) → n ≤ k → r.faces k ≡ word.Absent
-  absent_from n small o k far = dite (dec_lt k (length xs))
-      (λ near. ⊎_elim (λ (e : n ≡ length xs). absurd (omega (arith, e, far, near)))
-      (λ (e : is_absent (word_at ws n) ≡ true). let low : n < length xs = omega (arith, far, near) in r.state.together n k far
-      (sym (face_at n low) ∙ absent_is (word_at ws n) e)) o)
-      (λ out. r.state.beyond k (omega (arith, out)))
+  absent_from n h1 h2 k h3 = grind (arith, common_steps, face_at, absent_is)
 
   module _ (n : ℕ) (small : n ≤ length xs) (e : EndedBelow n ws) (o : (n ≡ length xs) ⊎ (is_absent (word_at ws n) ≡ true)) where
     gone : (k : ℕ) → n ≤ k → status r.history k ≡ Absent
     gone k far = r.state.agrees k ∙ ap shown (absent_from n small o k far)
 
     over_now : IsOver r.history
-    over_now k = dite (dec_lt k n) (λ below. ended_over (status r.history k) (ended_at n k small e below))
-        (λ far. absent_over (status r.history k) (gone k (omega (arith, far))))
+    over_now = grind (arith, common_steps, ended_at, gone)
 
     -- memory for the rows is asked for last
     pub finished : Finished (length xs) workers passes
@@ -191,10 +140,7 @@ module _ {J R : Type 0} (root : J) (workers : ℕ) (passes : List (Pass J R)) (w
           (ended_has_row (length xs) workers r.history r.state.legal k)))
 
       used_all : (w : ℕ) (p : Pass J R) → slice_get passes w ≡ Some p → p.full ≡ true → length rows ≡ length xs
-      used_all w p at full = ⊎_elim (λ (x : n ≡ length xs). count ∙ x)
-          (λ (x : is_absent (word_at ws n) ≡ true). dite (dec_lt n (length xs))
-          (λ near. absurd (r.used w p at full n near (sym (face_at n near) ∙ absent_is (word_at ws n) x)))
-          (λ out. omega (arith, out, small, count))) o
+      used_all w p h1 h2 = grind (arith, common_steps, face_at, absent_is)
 
       -- so the rows and the passes are settled by one history
       pub settled : Settled (length xs) workers root words_promises passes rows
@@ -223,31 +169,13 @@ module _ {J R : Type 0} (root : J) (workers : ℕ) (passes : List (Pass J R)) (w
   -- the first that has not ended is told
   pub unfinished : (n : ℕ) → n < length xs → EndedBelow n ws → is_absent (word_at ws n) ≡ false → has_ended (word_at ws n) ≡ false
       → Unfinished (length xs) workers n words_promises passes
-  unfinished n low e there going = let face = face_at n low in record {
-    history = r.history;
-    legal = r.state.legal;
-    left = subst IsUnended (sym (r.state.agrees n))
-        (open_face (r.faces n) (r.undrawn n) (ap is_absent (sym face) ∙ there) (ap has_ended (sym face) ∙ going));
-    least = λ k below. not_unended (status r.history k) (ended_at n k (omega (arith, low)) e below);
-    parts = λ _. r.parts;
-  }
+  unfinished n h1 h2 h3 h4 = grind (arith, common_steps, face_at, ended_at)
 
 -- the last element of a list that is the beginning of another
 pub popped : {A : Type 0} (all old new : List A) (x : A) (n : ℕ) → old ≡ new ++ x ∷ [] → length new ≡ n
     → ((w : ℕ) → w < n + 1 → slice_get old w ≡ slice_get all w)
     → (slice_get all n ≡ Some x) × ((w : ℕ) → w < n → slice_get new w ≡ slice_get all w)
-popped {A} all old new x n e len same = (
-  sym (same n (omega arith)) ∙ (ap (λ (z : List A). slice_get z n) e
-      ∙ (ap (λ z. slice_get (new ++ x ∷ []) z) (sym len) ∙ get_push_same new x)),
-  λ w low. sym (get_push_other new x w (λ z. absurd (omega (arith, low, len, z))))
-      ∙ (ap (λ (z : List A). slice_get z w) (sym e) ∙ same w (omega (arith, low))),
-)
-
-nat_lt_true : (a b : ℕ) → ltb a b ≡ true → a < b
-nat_lt_true a b e = grind (arith, nat_tests)
-
-nat_lt_false : (a b : ℕ) → ltb a b ≡ false → b ≤ a
-nat_lt_false a b e = grind (arith, nat_tests)
+popped all old new x n h1 h2 h3 = grind (arith, common_steps, get_push_same, get_push_other)
 
 at_front : {A : Type 0} (l m : List A) (n : ℕ) (a : A) → get_elem? l n ≡ some a → get_elem? (l ++ m) n ≡ some a
 at_front [] m n a e = absurd (some-ne-none a (sym e))
@@ -259,12 +187,10 @@ at_middle [] m a = refl
 at_middle (x ∷ l) m a = at_middle l m a
 
 larger_left : (a b n : ℕ) (c : Bool) → ltb a b ≡ c → n ≤ a → n ≤ cond c b a
-larger_left a b n true e l = let x = nat_lt_true a b e in omega (arith, l, x)
-larger_left a b n false e l = l
+larger_left a b n c h1 h2 = grind (arith, common_steps, nat_tests)
 
 larger_right : (a b n : ℕ) (c : Bool) → ltb a b ≡ c → n ≤ b → n ≤ cond c b a
-larger_right a b n true e l = l
-larger_right a b n false e l = let x = nat_lt_false a b e in omega (arith, l, x)
+larger_right a b n c h1 h2 = grind (arith, common_steps, nat_tests)
 
 module _ {J R : Type 0} where
   -- the pass that takes in another tells what it told before, and what the other did
@@ -293,12 +219,7 @@ module _ {J R : Type 0} where
   -- the last pass is the first that is taken in
   pub took_first : (slots : ℕ) (passes : List (Pass J R)) (n : ℕ) (v : View J R) (p : Pass J R) → length passes ≡ n + 1
       → slice_get passes n ≡ Some p → v.worker ≡ n → p.mine ≡ v.mine → (p.full ≡ true → slots ≤ v.front) → HasTaken slots passes n v
-  took_first slots passes n v p len at num own full u q above there =
-      let low = slice_get_within passes u q there in
-      let same : u ≡ n = omega (arith, low, len, above) in
-      let x : Some p ≡ Some q = sym at ∙ (ap (λ z. slice_get passes z) (sym same) ∙ there) in
-      let is : p ≡ q = cc x in
-      subst (λ (z : Pass J R). Tells v u z.mine × (z.full ≡ true → slots ≤ v.front)) is (inl (same ∙ sym num, sym own), full)
+  took_first slots passes n v p h1 h2 h3 h4 h5 = grind (arith, common_steps, slice_get_within)
 
   ended_lies : (root : Option J) (h : List (Event J R)) (hs : Homes J R) (k : ℕ) (c : Word) → SlotHolds root h hs k c → rank (shown c) ≡ 3
       → (r : R) × (get_elem? hs k ≡ some (some (Row r))) × (row_given h k ≡ ended_as (shown c) r)
@@ -308,21 +229,17 @@ module _ {J R : Type 0} where
 
   part_told : (root : Option J) (workers : ℕ) (h : List (Event J R)) (faces : ℕ → Word) (owner : ℕ → Option ℕ) (id : ℕ) (v : View J R)
       → Knows root workers h faces owner id v → (u : ℕ) (m : List (Event J R)) → Tells v u m → part u h ≡ m
-  part_told root workers h faces owner id v k u m t = ⊎_elim
-      (λ (x : (u ≡ v.worker) × (v.mine ≡ m)). ap (λ z. part z h) x.0 ∙ (k.mine ∙ x.1))
-      (λ (x : (n : ℕ) × (get_elem? v.joined n ≡ some (u, m))). (k.joins x.0 u m x.1).events) t
+  part_told root workers h faces owner id v h1 u m h2 = grind (arith, common_steps)
 
   not_held : (root : Option J) (workers : ℕ) (h : List (Event J R)) (faces : ℕ → Word) (owner : ℕ → Option ℕ) (id : ℕ) (v : View J R)
       → Knows root workers h faces owner id v → v.drawn ≡ 0 → (u : ℕ) (m : List (Event J R)) → Tells v u m → (q : ℕ)
       → faces q ≢ word.Drawn u
-  not_held root workers h faces owner id v k none u m t q f = ⊎_elim
-      (λ (x : (u ≡ v.worker) × (v.mine ≡ m)). let d = k.drew q (f ∙ ap word.Drawn x.0) in absurd (omega (arith, d, none)))
-      (λ (x : (n : ℕ) × (get_elem? v.joined n ≡ some (u, m))). (k.joins x.0 u m x.1).idle q f) t
+  not_held root workers h faces owner id v h1 h2 u m h3 q = grind (arith, common_steps)
 
   -- a closed row, by the pass that stayed
   pub gathers : (root : Option J) (workers id : ℕ) (v : View J R) (passes : List (Pass J R)) (ws : List ℕ) (xs : List (Slot J R))
       → v.live ≡ true → v.drawn ≡ 0 → length passes ≡ workers → HasTaken (length xs) passes 0 v
-      → Final (Seen (IsRow root workers) id v) ws xs → IsClosedRow root workers passes ws xs
+      → Final (Seen (ShowsHistory root workers) id v) ws xs → ShowsClosedHistory root workers passes ws xs
   gathers root workers id v passes ws xs lives none len has f =
       let s = f.0 in let r = f.1.0 in let k = r.each_seat id v f.1.1 lives in let size : length s.homes ≡ length xs = f.3 in record {
         history = r.history;
@@ -345,13 +262,4 @@ module _ {J R : Type 0} where
   pub rows_more : (ws : List ℕ) (xs : List (Slot J R)) (rows : List (Ended R)) (n : ℕ) (x : Word) (row : R) (last : Ended R)
       → length rows ≡ n → word_at ws n ≡ x → get_elem? xs n ≡ some (Row row) → ended_as (shown x) row ≡ Some last
       → TakesRows n ws xs rows → TakesRows (n + 1) ws xs (rows ++ last ∷ [])
-  rows_more ws xs rows n x row last len word there says old k r low at = dite (ℕ_discrete k n)
-      (λ e.
-      let here : get_elem? xs n ≡ some (Row r) = sym (ap (λ z. get_elem? xs z) e) ∙ at in
-      let same : Row row ≡ Row r = some-injective (Row row) (Row r) (sym there ∙ here) in
-      let rows_same : row ≡ r = cc same in
-      let words_same : x ≡ word_at ws k = sym word ∙ ap (λ z. word_at ws z) (sym e) in
-      ap (λ z. slice_get (rows ++ last ∷ []) z) (e ∙ sym len)
-      ∙ (get_push_same rows last ∙ (sym says ∙ (ap (λ z. ended_as (shown z) row) words_same
-      ∙ ap (λ z. ended_as (shown (word_at ws k)) z) rows_same))))
-      (λ ne. get_push_other rows last k (λ z. ne (z ∙ len)) ∙ old k r (let y : k ≢ n = ne in omega (arith, low, y)) at)
+  rows_more ws xs rows n x row last h1 h2 h3 h4 h5 = grind (arith, get_push_same, get_push_other)

@@ -8,9 +8,9 @@ use Rattle.atomic_table.specs.Table.{gives, stepped, step, rest, Allows}
 use Rattle.atomic_table.proofs.Lists.{set_else, set_here}
 use Rattle.lc_board.specs.{State.{Absent, Claimed, status}, Part.worker_of, LegalHistory.{posts_under, IsAllowed, IsLegal}, Holding.holding}
 use Rattle.lc_board.specs.{Holding.posted, RowsInPlace.row_given, Growth.{rank, put, job_at, IsRight}, Ending.{MayEnd, end_event, row_in}}
-use Rattle.lc_board.specs.{WordCode.{shown, code, end_word}, WordRow.{Homes, Seated, SlotHolds, Knows, IsRow}}
+use Rattle.lc_board.specs.{WordCode.{shown, code, end_word}, WordHistory.{Homes, Seated, SlotHolds, Knows, ShowsHistory}}
 use Rattle.lc_board.specs.declared.{words.{coding.Word.Word, view.{Slot.{Slot, TheVariants.{Empty, Row}}, View.View}}, event.Event.Event}
-use Rattle.lc_board.specs.{declared.answers.Ended.Ended, WordSteps.{AddsEvent, put_down}}
+use Rattle.lc_board.specs.{declared.answers.Ended.Ended, WordSteps.{AddsEvent, slot_released}}
 use Rattle.lc_board.proofs.{HeldClaims.posted_nothing, Growths.{at_put, put_here, put_else, part_own, part_else}, WordsMoved.agree_put}
 use Rattle.lc_board.proofs.{WordsMoved.{of_shown, held_is, IsNext, still_ended, IsTold, steps_on, lies_stay, IsTurn, turned}, WordClaims.St}
 use Rattle.lc_board.proofs.WordClaims.{added, next_same, told_same}
@@ -70,7 +70,7 @@ module _ {J R : Type 0} where
 
   module _ (root : Option J) (workers me i : ℕ) (v : View J R) (lives : v.live ≡ true) (empty : v.drawn ≡ 0)
       (claim : holding v.mine ≡ Some i) (x : Ended R) (may : MayEnd (posted v.mine) x)
-      (s : St J R) (r : IsRow root workers s) (at : get_elem? s.views me ≡ some v) (near : i < length s.homes) where
+      (s : St J R) (r : ShowsHistory root workers s) (at : get_elem? s.views me ≡ some v) (near : i < length s.homes) where
     abbrev c : Word
     c = end_word x
 
@@ -146,7 +146,7 @@ module _ {J R : Type 0} where
   pub ends_claim : (root : Option J) (workers slots me : ℕ) (m : Seated J R) (i new : ℕ) (x : Ended R) → m.0.live ≡ true → i < slots
       → m.0.drawn ≡ 0 → holding m.0.mine ≡ Some i → MayEnd (posted m.0.mine) x → new ≡ code (end_word x)
       → m.1 ≡ (i, Row (row_in x)) ∷ rest m.1
-      → Allows (IsRow root workers) slots me m i (λ _. new) (steps.ended (step slots i new 0 none) m)
+      → Allows (ShowsHistory root workers) slots me m i (λ _. new) (steps.ended (step slots i new 0 none) m)
   ends_claim root workers slots me m i new x lives near empty claim may coded has s r len at fits = let v = m.0 in
       let near' : i < length s.homes = omega arith in let k0 = r.each_seat me v at lives in
       let e : Event J R = end_event v.worker i x in let w = added v i r.history e in
@@ -155,15 +155,15 @@ module _ {J R : Type 0} where
       let did = steps_on root workers s r me v at lives i (e ∷ r.history) (put r.faces i (end_word x)) (set s.words i (code (end_word x)))
       to (e ∷ v.mine) v.drawn v.low v.front (turned root workers s r v.worker i (e ∷ r.history) (end_word x) to turn)
       (end_told root workers me i v lives empty claim x may s r at near') in
-      let row = subst (λ (c : List (ℕ × Slot J R)). IsRow root workers (stepped s i new me c w gives)) (sym has)
-      (subst (λ n. IsRow root workers record { words = set s.words i n; homes = to; views = set s.views me w }) (sym coded) did.0) in
+      let row = subst (λ (c : List (ℕ × Slot J R)). ShowsHistory root workers (stepped s i new me c w gives)) (sym has)
+      (subst (λ n. ShowsHistory root workers record { words = set s.words i n; homes = to; views = set s.views me w }) (sym coded) did.0) in
       let adds = subst (λ c. AddsEvent c v e w) len ((r.history, k0.seen, refl), refl, did.1) in
       (w, gives, tt, row, (((refl, refl, refl, refl, refl, refl), empty, refl, refl, refl), (x, coded, has, adds), refl))
 
   -- the slot of a claim goes home, and nothing else changes
   pub puts_down : (root : Option J) (workers slots me : ℕ) (m : Seated J R) (i : ℕ) → m.0.live ≡ true → i < slots → m.0.drawn ≡ 0
       → holding m.0.mine ≡ Some i → m.1 ≡ (i, Empty) ∷ rest m.1
-      → Allows (IsRow root workers) slots me m i (λ n. n) (put_down (step slots i 0 0 none) m)
+      → Allows (ShowsHistory root workers) slots me m i (λ n. n) (slot_released (step slots i 0 0 none) m)
   puts_down root workers slots me m i lives near empty claim has s r len at fits = let v = m.0 in
       let near' : i < length s.homes = omega arith in let k0 = r.each_seat me v at lives in
       let there = (held_is root workers s r me v k0 i).0 claim in
@@ -187,8 +187,8 @@ module _ {J R : Type 0} where
         w,
         gives,
         tt,
-        subst (λ (c : List (ℕ × Slot J R)). IsRow root workers (stepped s i (get_or s.words i 0) me c w gives)) (sym has)
-            (subst (λ (ws : List ℕ). IsRow root workers record { words = ws; homes = hs; views = set s.views me w })
+        subst (λ (c : List (ℕ × Slot J R)). ShowsHistory root workers (stepped s i (get_or s.words i 0) me c w gives)) (sym has)
+            (subst (λ (ws : List ℕ). ShowsHistory root workers record { words = ws; homes = hs; views = set s.views me w })
             (sym (set-get_or s.words i 0))
             (steps_on root workers s r me v at lives i r.history r.faces s.words hs v.mine v.drawn v.low v.front next
             (told_same root workers s r me v k0)).0),

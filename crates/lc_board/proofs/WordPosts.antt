@@ -9,8 +9,9 @@ use Rattle.std.specs.Prelude.{MatchBool}
 use Rattle.atomic_table.specs.Table.{Act, keeps, takes, gives, stepped, step, rest, Allows, Valid, carried_after}
 use Rattle.atomic_table.proofs.Lists.{set_else, set_here, exchanged}
 use Rattle.lc_board.specs.{State.{Absent, Open, Claimed, status}, LegalHistory.IsLegal, Holding.holding, Growth.{put, job_at}}
-use Rattle.lc_board.specs.{WordCode.{shown, code, word_of, is_absent}, WordRow.{Seated, SlotHolds, Knows, IsRow}, WordSteps.IsFair}
-use Rattle.lc_board.specs.{WordSteps.{AddsEvent, TakesEmpty, drew, stepped_over, opened}, declared.event.Event.{Event, TheVariants.Post}}
+use Rattle.lc_board.specs.{WordCode.{shown, code, word_of, is_absent}, WordSteps.IsFair}
+use Rattle.lc_board.specs.WordHistory.{Seated, SlotHolds, Knows, ShowsHistory}
+use Rattle.lc_board.specs.{WordSteps.{AddsEvent, TakesEmpty, drew, front_moved, opened}, declared.event.Event.{Event, TheVariants.Post}}
 use Rattle.lc_board.specs.declared.words.view.{Slot.{Slot, TheVariants.{Empty, Job}}, View.View}
 use Rattle.lc_board.proofs.{Growths.{at_put, put_here, put_else, whole, part_own, part_else}, WordCodes.not_absent, WordsMoved.agree_put}
 use Rattle.lc_board.proofs.{WordsMoved.{held_is, still_ended, IsTold, steps_on, IsTurn, turned}, WordClaims.{St, face_here, unwritten}}
@@ -30,7 +31,7 @@ module _ {J R : Type 0} where
   -- a number is drawn, by who has a claim
   module _ (root : Option J) (workers me i : ℕ) (v : View J R) (lives : v.live ≡ true) (empty : v.drawn ≡ 0) (front : v.front ≡ i)
       (q : ℕ) (claim : holding v.mine ≡ Some q)
-      (s : St J R) (r : IsRow root workers s) (at : get_elem? s.views me ≡ some v) (near : i < length s.homes) where
+      (s : St J R) (r : ShowsHistory root workers s) (at : get_elem? s.views me ≡ some v) (near : i < length s.homes) where
     abbrev k : Knows root workers r.history r.faces r.owner me v
     k = r.each_seat me v at lives
 
@@ -89,11 +90,11 @@ module _ {J R : Type 0} where
   -- an exchange that draws a number keeps the row of words, whether it takes place or not
   pub draws : (root : Option J) (workers slots me : ℕ) (m : Seated J R) (i new q : ℕ) → m.0.live ≡ true → i < slots → m.0.drawn ≡ 0
       → m.0.front ≡ i → holding m.0.mine ≡ Some q → new ≡ 4 + 2 * m.0.worker
-      → Allows (IsRow root workers) slots me m i (λ x. either (eqb x 0) new x) (drew (step slots i 0 new none) m)
+      → Allows (ShowsHistory root workers) slots me m i (λ x. either (eqb x 0) new x) (drew (step slots i 0 new none) m)
   draws root workers slots me m i new q lives near empty front claim is s r len at fits = let v = m.0 in let z : ℕ = get_or s.words i 0 in
       let near' : i < length s.homes = omega arith in let k0 = r.each_seat me v at lives in
       let G : ℕ → Type 0 = λ x. (w : View J R) × (a : Act (Slot J R)) × Valid s.homes m.1 a
-      × IsRow root workers (stepped s i x me m.1 w a) × drew (step slots i 0 new none) m z (w, carried_after m.1 a) in
+      × ShowsHistory root workers (stepped s i x me m.1 w a) × drew (step slots i 0 new none) m z (w, carried_after m.1 a) in
       exchanged z 0 new G
       (λ (hit : z ≡ 0). let gone : r.faces i ≡ word.Absent = sym (face_here root workers s r i near') ∙ ap word_of hit in
       let l = subst (λ c. SlotHolds root r.history s.homes i c) gone (r.lies i near') in
@@ -102,7 +103,7 @@ module _ {J R : Type 0} where
       (turned root workers s r v.worker i r.history (word.Drawn v.worker) (set s.homes i none)
       (draw_turn root workers me i v lives empty front q claim s r at near' gone))
       (draw_told root workers me i v lives empty front q claim s r at near' gone) in let w = drawn_view v r.history i in
-      let row = subst (λ x. IsRow root workers (stepped s i x me m.1 w (takes i Empty))) (sym is) did.0 in
+      let row = subst (λ x. ShowsHistory root workers (stepped s i x me m.1 w (takes i Empty))) (sym is) did.0 in
       let took = subst (λ b. MatchBool b (TakesEmpty i m (w, carried_after m.1 (takes i Empty)))
       ((carried_after m.1 (takes i Empty) ≡ m.1) × (w.drawn ≡ v.drawn))) (sym (ap (λ n. is_absent (word_of n)) hit))
       (refl, refl, below_it root workers me i v lives empty front q claim s r at near' gone) in
@@ -121,7 +122,7 @@ module _ {J R : Type 0} where
   -- a look at a number that another has drawn keeps it too
   pub steps_over : (root : Option J) (workers slots me : ℕ) (m : Seated J R) (i q : ℕ) → m.0.live ≡ true → i < slots → m.0.drawn ≡ 0
       → m.0.front ≡ i → holding m.0.mine ≡ Some q
-      → Allows (IsRow root workers) slots me m i (λ n. n) (stepped_over (step slots i 0 0 none) m)
+      → Allows (ShowsHistory root workers) slots me m i (λ n. n) (front_moved (step slots i 0 0 none) m)
   steps_over root workers slots me m i q lives near empty front claim s r len at fits = let v = m.0 in let z : ℕ = get_or s.words i 0 in
       let near' : i < length s.homes = omega arith in let k0 = r.each_seat me v at lives in
       dite (ℕ_discrete z 0)
@@ -146,7 +147,7 @@ module _ {J R : Type 0} where
 
   module _ (root : Option J) (workers me i : ℕ) (v : View J R) (lives : v.live ≡ true) (full : v.drawn ≡ i + 1) (p : ℕ)
       (claim : holding v.mine ≡ Some p) (below : p < i) (j : J)
-      (s : St J R) (r : IsRow root workers s) (at : get_elem? s.views me ≡ some v) (near : i < length s.homes) where
+      (s : St J R) (r : ShowsHistory root workers s) (at : get_elem? s.views me ≡ some v) (near : i < length s.homes) where
     abbrev ko : Knows root workers r.history r.faces r.owner me v
     ko = r.each_seat me v at lives
 
@@ -199,7 +200,7 @@ module _ {J R : Type 0} where
   -- and so does the store that opens a drawn number with its job
   pub opens : (root : Option J) (workers slots me : ℕ) (m : Seated J R) (i p : ℕ) (j : J) → m.0.live ≡ true → i < slots
       → m.0.drawn ≡ i + 1 → holding m.0.mine ≡ Some p → p < i → m.1 ≡ (i, Job j) ∷ rest m.1
-      → Allows (IsRow root workers) slots me m i (λ _. 1) (opened (step slots i 1 0 none) m)
+      → Allows (ShowsHistory root workers) slots me m i (λ _. 1) (opened (step slots i 1 0 none) m)
   opens root workers slots me m i p j lives near full claim below has s r len at fits = let v = m.0 in
       let near' : i < length s.homes = omega arith in let k0 = r.each_seat me v at lives in
       let e : Event J R = Post v.worker p i j in let w = opened_view v i r.history e in
@@ -208,6 +209,6 @@ module _ {J R : Type 0} where
       (set s.homes i (some (Job j))) (e ∷ v.mine) 0 v.low v.front
       (turned root workers s r v.worker i (e ∷ r.history) word.Open (set s.homes i (some (Job j))) turn)
       (open_told root workers me i v lives full p claim below j s r at near') in
-      let row = subst (λ (c : List (ℕ × Slot J R)). IsRow root workers (stepped s i 1 me c w gives)) (sym has) did.0 in
+      let row = subst (λ (c : List (ℕ × Slot J R)). ShowsHistory root workers (stepped s i 1 me c w gives)) (sym has) did.0 in
       let adds = subst (λ c. AddsEvent c v e w) len ((r.history, k0.seen, refl), refl, did.1) in
       (w, gives, tt, row, (((refl, refl, refl, refl, refl, refl), refl, refl, refl, refl), (p, j, claim, has, adds), refl))

@@ -1,8 +1,9 @@
 -- A claim that goes up over the words.
+use Rattle.std.proofs.lemmas.Grind.{common_steps}
 use Rattle.std.proofs.Common.{◌≡◌, ◌≢◌, ℕ, ◌+◌, ◌<◌, ◌≤◌, ◌⊎◌, Bool, true, false, ◌||◌, ◌∷◌, refl, ap, sym, ◌∙◌, subst, inl, inr, ⊎_elim}
 use Rattle.std.proofs.{Common.{Option, Some, None, arith}, lemmas.Bool.Decides.nat_tests}
 use mathlib.Core.Logic.{dite}
-use native.Mathlib.Decide.{ℕ_discrete, dec_le}
+use native.Mathlib.Decide.{ℕ_discrete}
 use Rattle.std.specs.Prelude.{MatchBool, IfSome, Result, Ok, Err, cond}
 use Rattle.lc_board.specs.{State.{Status, Absent, Open, status}, LegalHistory.IsLegal, Holding.holding, Growth.{GoesOn, rank}}
 use Rattle.lc_board.specs.WordSteps.{IsFair, AddsEvent, ExtendsFairly, Extends, OthersHeld, Waits, SomeHolds, Finds, HasLooked, low_after}
@@ -44,30 +45,14 @@ ended_last : (cap i : ℕ) (x : Word) → is_last_word cap i x ≡ false → has
 ended_last cap i x h e l = grind (arith, nat_tests)
 
 busy_last : (cap i : ℕ) (x : Word) → is_busy x ≡ true → is_last_word cap i x ≡ false
-busy_last cap i word.Open e = refl
-busy_last cap i (word.Drawn w) e = refl
-busy_last cap i (word.Claimed w) e = refl
-busy_last cap i _ e = absurd cc
+busy_last cap i x h1 = grind (arith, common_steps)
 
 -- a number that is neither absent, open nor busy has ended
 ended_else : (x : Word) → is_absent x ≡ false → is_open x ≡ false → is_busy x ≡ false → has_ended x ≡ true
-ended_else word.Returned a b c = refl
-ended_else word.Faulted a b c = refl
-ended_else _ a b c = absurd cc
+ended_else x h1 h2 h3 = grind (arith, common_steps)
 
 busy_goes_on : (x : Word) → is_busy x ≡ true → has_ended x ≡ false
-busy_goes_on (word.Drawn w) e = refl
-busy_goes_on (word.Claimed w) e = refl
-busy_goes_on _ e = absurd cc
-
-below_larger : (a b k : ℕ) → k < larger a b → (k < a) ⊎ (k < b)
-below_larger a b k h = grind (arith, nat_tests)
-
-left_larger : (a b k : ℕ) → k < a → k < larger a b
-left_larger a b k h = grind (arith, nat_tests)
-
-rank_two : (m : Status) → 2 ≤ rank m → m ≢ Open
-rank_two m h e = let x = ap rank e in omega arith
+busy_goes_on x h1 = grind (arith, common_steps)
 
 module _ {J R : Type 0} where
   -- seeing more before an event adds it all the same
@@ -107,8 +92,7 @@ module _ {J R : Type 0} where
 
   -- a look that finds the number open
   pub found_open : (cap i : ℕ) (x : Word) (v w : View J R) → HasLooked cap i x v w → is_open x ≡ true → MeetsOpen cap v i
-  found_open cap i x v w m is = let n = subst (λ z. HasLooked cap i z v w) (open_is x is) m in
-      let l = looks_of cap i word.Open v w n (last_not cap i v.low word.Open refl) in (w.workers, w.seen, l.2.0, l.0, n.6)
+  found_open cap i x v w h1 h2 = grind (arith, common_steps, open_is, looks_of, last_not)
 
   -- the numbers that are passed stay passed
   passed : (cap : ℕ) (v u w : View J R) (k : ℕ) → ExtendsFairly cap u w → (status v.seen k ≡ Absent) ⊎ (2 ≤ rank (status u.seen k))
@@ -139,27 +123,15 @@ module _ {J R : Type 0} where
 
   -- what has been visited answers Later where no number after it had been seen posted
   waits : (cap i : ℕ) (v w : View J R) → Extends v w → HasMet cap i v w → ((k : ℕ) → i ≤ k → status v.seen k ≡ Absent) → Waits cap v w
-  waits cap i v w s met rest = (
-    (s.0, s.1, met.fair),
-    (λ k there. dite (dec_le i k) (λ x. absurd (there (rest k x)))
-        (λ x. ⊎_elim (λ (e : status v.seen k ≡ Absent). absurd (there e))
-        (λ (e : 2 ≤ rank (status w.seen k)). rank_two (status w.seen k) e) (met.past k (omega arith)))),
-    met.others,
-  )
+  waits cap i v w h1 h2 h3 = grind (arith, common_steps)
 
   -- a number that was found neither absent nor open is drawn, claimed or ended
   found_passed : (i : ℕ) (x : Word) (w : View J R) → Finds i x w → is_absent x ≡ false → is_open x ≡ false
       → (status w.seen i ≡ Absent) ⊎ (2 ≤ rank (status w.seen i))
-  found_passed i word.Returned w f a b = inr (let e = ap rank f in omega arith)
-  found_passed i word.Faulted w f a b = inr (let e = ap rank f in omega arith)
-  found_passed i (word.Drawn u) w f a b = inl f.0
-  found_passed i (word.Claimed u) w f a b = inr (let e = ap rank f.0 in omega arith)
-  found_passed i _ w f a b = absurd cc
+  found_passed i x w h1 h2 h3 = grind (arith, common_steps)
 
   found_busy : (i : ℕ) (x : Word) (w : View J R) → Finds i x w → is_busy x ≡ true → SomeHolds w
-  found_busy i (word.Drawn u) w f e = f.1
-  found_busy i (word.Claimed u) w f e = f.1
-  found_busy i _ w f e = absurd cc
+  found_busy i x w h1 h2 = grind (arith, common_steps)
 
   -- who holds a claim is another, for a pass that has claimed nothing
   others_held : (v w : View J R) → Extends v w → holding v.mine ≡ None → SomeHolds w → OthersHeld v w
@@ -224,20 +196,9 @@ module _ {J R : Type 0} where
         },
       )
 
-  -- what is taken below a mark needs no look
-  met_to : (cap i taken : ℕ) (v w : View J R) → HasMet cap i v w → AreTaken taken w.seen → HasMet cap (larger i taken) v w
-  met_to cap i taken v w met marked = record {
-    fair = met.fair;
-    far = met.far;
-    past = λ k a. ⊎_elim (λ (l : k < i). met.past k l) (λ (l : k < taken). inr (marked k l)) (below_larger i taken k a);
-    others = met.others;
-    above = left_larger i taken w.low met.above;
-  }
-
   scan_to : (cap i next taken : ℕ) (busy : Bool) (v w : View J R) → Extends v w × MatchBool busy (HasMet cap i v w) (w.low ≡ i)
       → AreTaken taken w.seen → next ≡ cond busy (larger i taken) i → IsScan cap next busy v w
-  scan_to cap i next taken true v w s marked is = (s.0, subst (λ z. HasMet cap z v w) (sym is) (met_to cap i taken v w s.1 marked))
-  scan_to cap i next taken false v w s marked is = (s.0, s.1 ∙ sym is)
+  scan_to cap i next taken busy v w h1 h2 h3 = grind (arith, common_steps, nat_tests)
 
   -- a visit that claims nothing, of a number that is not the last
   scan_on : (cap i : ℕ) (x : Word) (busy meets : Bool) (v u w : View J R) → is_busy x ≡ meets → IsScan cap i busy v u

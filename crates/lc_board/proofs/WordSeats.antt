@@ -1,4 +1,5 @@
 -- Passes that are made and taken in, and the row at the start.
+use Rattle.std.proofs.lemmas.Grind.{common_steps}
 use Rattle.std.proofs.Common.{◌≡◌, ◌≢◌, ℕ, zero, suc, eqb, subst, ◌+◌, ◌<◌, ◌≤◌, ◌⊎◌, Bool, true, false, cond, ltb, List, [], ◌∷◌, ◌++◌}
 use Rattle.std.proofs.Common.{length, get_or, set, replicate, map, sym, refl, ap, ◌∙◌, inl, inr, ⊎_elim, arith, length-set, Option, Some}
 use Rattle.std.proofs.{Common.None, lemmas.List.append-nil}
@@ -6,10 +7,10 @@ use mathlib.Core.{Path.Path, Option.{some, some-injective, some-ne-none}}
 use lib.ListN.{get_elem?}
 use Rattle.atomic_table.specs.Table.{State, Splits, Joins, opening}
 use Rattle.atomic_table.proofs.Lists.{at_set, set_else}
-use Rattle.lc_board.specs.{State.{Absent, Open, Claimed, status}, Part.part, Growth.put, WordCode.code, WordRow.{Homes, SlotHolds}}
-use Rattle.lc_board.specs.WordRow.{HasJoined, Knows, IsRow}
+use Rattle.lc_board.specs.{State.{Absent, Open, Claimed, status}, Part.part, Growth.put, WordCode.code, WordHistory.{Homes, SlotHolds}}
+use Rattle.lc_board.specs.WordHistory.{HasJoined, Knows, ShowsHistory}
 use Rattle.lc_board.specs.declared.{words.{coding.Word.Word, view.{Slot.{Slot, TheVariants.{Empty, Job}}, View.View}}, event.Event.Event}
-use Rattle.lc_board.specs.WordSteps.{view_before_split, left_of_split, larger, right_of_split, merged, spent}
+use Rattle.lc_board.specs.WordSteps.{view_before_split, kept_by_split, larger, given_by_split, merged, spent}
 use Rattle.lc_board.proofs.{Growths.{at_put, put_here, put_else}, WordsMoved.{same_some, agree_put}}
 use mathlib.Core.Option as maybe
 use Rattle.lc_board.specs.declared.words.coding.Word.TheVariants as word
@@ -29,8 +30,7 @@ at_append (x ∷ xs) m b (suc j) e = at_append xs m b j e
 
 -- what holds below each of two numbers holds below the larger
 below_larger : (a b : ℕ) (P : ℕ → Type 0) (c : Bool) → ((k : ℕ) → k < a → P k) → ((k : ℕ) → k < b → P k) → (k : ℕ) → k < cond c b a → P k
-below_larger a b P true x y k l = y k l
-below_larger a b P false x y k l = x k l
+below_larger a b P c h1 h2 k h3 = grind (arith, common_steps)
 
 -- the seat o's workers go to the seat id
 abbrev redirect : ℕ → ℕ → Option ℕ → Option ℕ
@@ -38,12 +38,7 @@ redirect o id None = None
 redirect o id (Some x) = cond (eqb x o) (Some id) (Some x)
 
 redirect_none : (o id : ℕ) (x : Option ℕ) → redirect o id x ≡ None → x ≡ None
-redirect_none o id None e = refl
-redirect_none o id (Some x) e = go (eqb x o) e
-  where
-    go : (b : Bool) → cond b (Some id) (Some x) ≡ None → Some x ≡ None
-    go true e = absurd cc
-    go false e = absurd cc
+redirect_none o id x h1 = grind (arith, common_steps)
 
 redirect_to : (o id : ℕ) (x : Option ℕ) → x ≡ Some o → redirect o id x ≡ Some id
 redirect_to o id x e = ap (redirect o id) e ∙ ap (λ b. cond b (Some id) (Some o)) (Rattle.std.proofs.Common.eq-eqb o o refl)
@@ -53,11 +48,11 @@ redirect_else o id j x e n = ap (redirect o id) e ∙ ap (λ b. cond b (Some id)
 
 module _ {J R : Type 0} where
   -- the rule stays where only the views and the owners change
-  reseated : (root : Option J) (workers : ℕ) (s : State (Slot J R) (View J R)) (r : IsRow root workers s) (views : List (View J R))
+  reseated : (root : Option J) (workers : ℕ) (s : State (Slot J R) (View J R)) (r : ShowsHistory root workers s) (views : List (View J R))
       (owner : ℕ → Option ℕ)
       → ((u : ℕ) → owner u ≡ None → (part u r.history ≡ []) × ((k : ℕ) → (r.faces k ≢ word.Drawn u) × (r.faces k ≢ word.Claimed u)))
       → ((j : ℕ) (v : View J R) → get_elem? views j ≡ some v → v.live ≡ true → Knows root workers r.history r.faces owner j v)
-      → IsRow root workers record { words = s.words; homes = s.homes; views = views }
+      → ShowsHistory root workers record { words = s.words; homes = s.homes; views = views }
   reseated root workers s r views owner idle seats = record {
     history = r.history;
     faces = r.faces;
@@ -82,25 +77,11 @@ module _ {J R : Type 0} where
       → (0 < made → (j ≡ 0) × ((u : ℕ) → made ≤ u → owner' u ≡ None))
       → ((n u : ℕ) (m : List (Event J R)) → get_elem? joined n ≡ some (u, m) → HasJoined h faces owner' j d.worker u m)
       → Knows root workers h faces owner' j (record d { made = made; joined = joined; front = front })
-  reknown root workers h faces owner owner' j d made joined front k owns used deals joins = record {
-    root_is = k.root_is;
-    workers_are = k.workers_are;
-    member = k.member;
-    mine = k.mine;
-    seen = k.seen;
-    own = k.own;
-    owns = owns;
-    drew = k.drew;
-    draws = k.draws;
-    low = k.low;
-    front = used;
-    deals = deals;
-    joins = joins;
-  }
+  reknown root workers h faces owner owner' j d made joined front h1 h2 h3 h4 h5 = grind (arith, common_steps)
 
   -- a pass that is made from the first keeps the row of words
   pub splits : (root : Option J) (workers id : ℕ) (v : View J R) → v.live ≡ true → 0 < v.made → v.made < workers
-      → Splits (IsRow root workers) id v (left_of_split v) (right_of_split v)
+      → Splits (ShowsHistory root workers) id v (kept_by_split v) (given_by_split v)
   splits root workers id v lives some_made room s r at = let k = r.each_seat id v at lives in let deals = k.deals some_made in
       let n : ℕ = length s.views in
       let owner' : ℕ → Option ℕ = put r.owner v.made (Some n) in
@@ -108,12 +89,12 @@ module _ {J R : Type 0} where
       let other : (u j : ℕ) → r.owner u ≡ Some j → u ≢ v.made = (λ u j e x. let y = sym e ∙ (ap r.owner x ∙ fresh) in cc) in
       let kept : (u j : ℕ) → r.owner u ≡ Some j → owner' u ≡ Some j = (λ u j e. put_else r.owner v.made (Some n) u (other u j e) ∙ e) in
       let unused = r.idle v.made fresh in
-      reseated root workers s r (set s.views id (left_of_split v) ++ right_of_split v ∷ []) owner'
+      reseated root workers s r (set s.views id (kept_by_split v) ++ given_by_split v ∷ []) owner'
       (λ u. at_put r.owner v.made (Some n) (λ z o. o ≡ None → (part z r.history ≡ [])
       × ((q : ℕ) → (r.faces q ≢ word.Drawn z) × (r.faces q ≢ word.Claimed z))) u (λ e. absurd cc) (λ _ e. r.idle u e))
       (λ j d e live. ⊎_elim
-      (λ (x : get_elem? (set s.views id (left_of_split v)) j ≡ some d). ⊎_elim
-      (λ (y : (j ≡ id) × (left_of_split v ≡ d)). subst (λ (z : ℕ × View J R). Knows root workers r.history r.faces owner' z.0 z.1)
+      (λ (x : get_elem? (set s.views id (kept_by_split v)) j ≡ some d). ⊎_elim
+      (λ (y : (j ≡ id) × (kept_by_split v ≡ d)). subst (λ (z : ℕ × View J R). Knows root workers r.history r.faces owner' z.0 z.1)
       (λ i. (sym y.0 i, y.1 i))
       (reknown root workers r.history r.faces r.owner owner' id v (v.made + 1) v.joined v.front k (kept v.worker id k.owns) k.front
       (λ _. (deals.0, λ u le. put_else r.owner v.made (Some n) u (λ z. absurd (omega arith)) ∙ deals.1 u (omega arith)))
@@ -123,10 +104,10 @@ module _ {J R : Type 0} where
       reknown root workers r.history r.faces r.owner owner' j d d.made d.joined d.front kd (kept d.worker j kd.owns) kd.front
       (λ more. absurd (y.0 ((kd.deals more).0 ∙ sym deals.0))) (λ a u m is. let q = kd.joins a u m is in
       reowned r.history r.faces r.owner owner' j d.worker u m q (kept u j q.owned)))
-      (at_set s.views id j (left_of_split v) d x))
-      (λ (x : (j ≡ length (set s.views id (left_of_split v))) × (right_of_split v ≡ d)). subst
+      (at_set s.views id j (kept_by_split v) d x))
+      (λ (x : (j ≡ length (set s.views id (kept_by_split v))) × (given_by_split v ≡ d)). subst
       (λ (z : ℕ × View J R). Knows root workers r.history r.faces owner' z.0 z.1)
-      (λ i. (sym (x.0 ∙ length-set s.views id (left_of_split v)) i, x.1 i)) record {
+      (λ i. (sym (x.0 ∙ length-set s.views id (kept_by_split v)) i, x.1 i)) record {
         root_is = k.root_is;
         workers_are = k.workers_are;
         member = room;
@@ -141,11 +122,11 @@ module _ {J R : Type 0} where
         deals = λ f. absurd (omega arith);
         joins = λ a u m f. absurd (some-ne-none (u, m) (sym f));
       })
-      (at_end (set s.views id (left_of_split v)) (right_of_split v) d j e))
+      (at_end (set s.views id (kept_by_split v)) (given_by_split v) d j e))
 
   -- so does one that is taken in at close
   pub merges : (root : Option J) (workers id : ℕ) (v : View J R) (other : ℕ) (w : View J R) → v.live ≡ true → w.live ≡ true
-      → w.drawn ≡ 0 → Joins (IsRow root workers) id v other w (merged v w) spent
+      → w.drawn ≡ 0 → Joins (ShowsHistory root workers) id v other w (merged v w) spent
   merges root workers id v other w lives lives' still s r at apart at' = let k = r.each_seat id v at lives in
       let there = sym (set_else s.views id other (merged v w) apart) ∙ at' in let kw = r.each_seat other w there lives' in
       let owner' : ℕ → Option ℕ = λ u. redirect other id (r.owner u) in
@@ -196,11 +177,6 @@ module _ {J R : Type 0} where
 abbrev pub blank : ℕ → List ℕ
 blank n = replicate n 0
 
-zeros : (n k : ℕ) → get_or (blank n) k 0 ≡ 0
-zeros zero k = refl
-zeros (suc n) zero = refl
-zeros (suc n) (suc k) = zeros n k
-
 empties : (J R : Type 0) (n k : ℕ) → k < n
     → Path (maybe.Option (maybe.Option (Slot J R))) (get_elem? (map some (replicate n Empty)) k) (some (some Empty))
 empties J R zero k l = absurd (omega arith)
@@ -208,12 +184,10 @@ empties J R (suc n) zero l = refl
 empties J R (suc n) (suc k) l = empties J R n k (omega arith)
 
 long : (J R : Type 0) (n : ℕ) → length (map (λ (x : Slot J R). some x) (replicate n Empty)) ≡ n
-long J R zero = refl
-long J R (suc n) = ap suc (long J R n)
+long J R n = grind (arith, common_steps)
 
 long_zeros : (n : ℕ) → length (blank n) ≡ n
-long_zeros zero = refl
-long_zeros (suc n) = ap suc (long_zeros n)
+long_zeros n = grind (arith, common_steps)
 
 abbrev first_faces : ℕ → Word
 first_faces = put (λ _. word.Absent) 0 word.Open
@@ -226,18 +200,16 @@ module _ (J R : Type 0) (root : J) (workers n : ℕ) (some_worker : 0 < workers)
   counted = ap suc (long J R n)
 
   first_shows : (k : ℕ) → k < suc n → get_or (1 ∷ blank n) k 0 ≡ code (first_faces k)
-  first_shows zero l = refl
-  first_shows (suc k) l = zeros n k ∙ ap code (sym (put_else (λ _. word.Absent) 0 word.Open (suc k) (λ e. absurd (omega arith))))
+  first_shows k h1 = grind (arith, common_steps, put_else)
 
   first_lies : (k : ℕ) → k < suc n → SlotHolds (Some root) [] first_homes k (first_faces k)
   first_lies zero l = (root, refl, refl)
-  first_lies (suc k) l = subst (λ f. SlotHolds (Some root) [] first_homes (suc k) f)
-      (sym (put_else (λ _. word.Absent) 0 word.Open (suc k) (λ e. absurd (omega arith)))) (empties J R n k (omega arith))
+  first_lies (suc k) l = grind (arith, common_steps, put_else, empties)
 
   -- word 0 is open with the root in its slot, and the others are absent
   pub begins : (ws : List ℕ) (xs : List (Slot J R)) → ws ≡ 1 ∷ blank n → xs ≡ Job root ∷ replicate n Empty
-      → IsRow (Some root) workers (opening ws xs (view_before_split (Some root) workers))
-  begins ws xs is are = subst (λ (z : List ℕ × List (Slot J R)). IsRow (Some root) workers
+      → ShowsHistory (Some root) workers (opening ws xs (view_before_split (Some root) workers))
+  begins ws xs is are = subst (λ (z : List ℕ × List (Slot J R)). ShowsHistory (Some root) workers
       (opening z.0 z.1 (view_before_split (Some root) workers))) (λ i. (sym is i, sym are i)) record {
         history = [];
         faces = first_faces;

@@ -1,7 +1,7 @@
 -- A board of words is started: its first pass, and one pass more.
 use Rattle.std.proofs.Common.{◌≡◌, ◌<◌, ◌≤◌, ◌+◌, ◌-◌, ◌++◌, ◌∷◌, ◌∙◌, ℕ, false, List, [], Option, Some, None, length, replicate, slice_get}
 use Rattle.std.proofs.{Common.{slice_set, refl, sym, ap, subst, arith}, lemmas.List.{length-replicate, length-set}}
-use Rattle.lc_board.specs.{Pass.new_pass, WordPass.IsTied, WordRow.Seated, WordSteps.{view_before_split, left_of_split, right_of_split}}
+use Rattle.lc_board.specs.{Pass.new_pass, WordPass.IsTied, WordHistory.Seated, WordSteps.{view_before_split, kept_by_split, given_by_split}}
 use Rattle.lc_board.specs.{WordsBoard.{IsPassOf, Owns, IsSamePass, known, told}, declared.words.{Words.Words, pass.WordsPass.WordsPass}}
 use Rattle.lc_board.specs.declared.words.view.View.{View}
 use Rattle.lc_board.proofs.Places.{each_set, each_push, get_push_other, get_set_same}
@@ -37,8 +37,8 @@ module _ {J R : Type 0} where
   -- one pass more of those that are started
   pub one_more : (b : Words J R) (items : List (WordsPass J R)) (n workers : ℕ) (first first' other : WordsPass J R)
       → slice_get items 0 ≡ Some first → length items ≡ n → 0 < n
-      → IsSamePass first first' → known first' ≡ left_of_split (known first) → IsPassOf b other → other.worker ≡ n → other.full ≡ false
-      → known other ≡ right_of_split (known first)
+      → IsSamePass first first' → known first' ≡ kept_by_split (known first) → IsPassOf b other → other.worker ≡ n → other.full ≡ false
+      → known other ≡ given_by_split (known first)
       → ((w : ℕ) (p : WordsPass J R) → slice_get items w ≡ Some p → IsNew b w p)
       → ((known first).made ≡ n) × ((known first).workers ≡ workers)
       → ((w : ℕ) (p : WordsPass J R) → slice_get (slice_set items 0 first' ++ other ∷ []) w ≡ Some p → IsNew b w p)

@@ -4,10 +4,10 @@ use Rattle.std.proofs.Common.{arith}
 use mathlib.Core.Path.{Path}
 use Rattle.std.specs.Prelude.{IsSome}
 use Rattle.atomic_table.specs.Table.{Step, rest}
-use Rattle.lc_board.specs.{Holding.{holding, posted}, WordCode.{word_of, is_absent, is_open}, WordRow.Seated}
+use Rattle.lc_board.specs.{Holding.{holding, posted}, WordCode.{word_of, is_absent, is_open}, WordHistory.Seated}
 use Rattle.lc_board.specs.declared.words.{coding.Word.Word, view.{Slot.{Slot, TheVariants.{Empty, Job, Row}}, View.View}}
 use Rattle.lc_board.specs.{declared.event.Event.Event, WordSteps.{Same, TakesStep, HasLooked, Leaves, looked, TakesJob, claimed, TriesDraw}}
-use Rattle.lc_board.specs.{WordSteps.{OpensDrawn, stepped_over}, WordPass.{IsTied, kind, tag, tags_as, carried_as}}
+use Rattle.lc_board.specs.{WordSteps.{OpensDrawn, front_moved}, WordPass.{IsTied, kind, tag, tags_as, carried_as}}
 use Rattle.lc_board.proofs.WordCodes.{match_true, match_false}
 
 -- a claim that is there has a number
@@ -117,7 +117,7 @@ module _ {J R : Type 0} where
 
   -- a look at the front, which is absent
   pub tied_seen : (slots r worker : ℕ) (claim : Option ℕ) (st : Step (Slot J R)) (posts front low : ℕ) (m m1 : Seated J R)
-      → is_absent (word_of r) ≡ true → stepped_over st m r m1
+      → is_absent (word_of r) ≡ true → front_moved st m r m1
       → IsTied slots worker claim posts front low m → IsTied slots worker claim posts front low m1
   tied_seen slots r worker claim st posts front low m m1 none did t =
       tied_kept slots worker claim posts front front low m m1 did.1 did.2 did.3 did.5.1 did.0
@@ -125,7 +125,7 @@ module _ {J R : Type 0} where
 
   -- a look at the front, which is used
   pub tied_stepped : (slots i r worker : ℕ) (claim : Option ℕ) (st : Step (Slot J R)) (posts low : ℕ) (m m1 : Seated J R) → st.word ≡ i
-      → i < slots → is_absent (word_of r) ≡ false → stepped_over st m r m1
+      → i < slots → is_absent (word_of r) ≡ false → front_moved st m r m1
       → IsTied slots worker claim posts i low m → IsTied slots worker claim posts (i + 1) low m1
   tied_stepped slots i r worker claim st posts low m m1 at near other did t = let x = t.near in
       tied_kept slots worker claim posts i (i + 1) low m m1 did.1 did.2 did.3 did.5.1 did.0

@@ -1,13 +1,15 @@
 -- What stays of the row of words when one number and one pass move.
-use Rattle.std.proofs.Common.{◌∷◌, ◌≡◌, ◌≢◌, ◌↔◌, ℕ, eqb, subst, ◌+◌, ◌<◌, true, false, cond, List, length, get_or, set, sym, refl, ap}
+use Rattle.std.proofs.lemmas.Grind.{common_steps}
+use Rattle.std.proofs.Common.{◌∷◌, ◌≡◌, ◌≢◌, ◌↔◌, ℕ, eqb, subst, ◌+◌, ◌<◌, true, false, cond, List, length, get_or, set, sym, ap}
 use Rattle.std.proofs.Common.{◌∙◌, ⊎_elim, arith, length-set, get_or-set_same, get_or-set_other, Option, Some, None}
 use mathlib.Core.{Path.Path, Option.some}
 use lib.ListN.{get_elem?}
 use Rattle.atomic_table.specs.Table.{State}
 use Rattle.atomic_table.proofs.Lists.{at_set}
 use Rattle.lc_board.specs.{State.{Status, Claimed, status}, Part.part, LegalHistory.IsLegal, Holding.holding, RowsInPlace.row_given}
-use Rattle.lc_board.specs.{Growth.{GoesOn, IsEnded, put, job_at, IsMatched}, WordCode.{shown, code}, WordRow.{Homes, SlotHolds, HasJoined}}
-use Rattle.lc_board.specs.{WordRow.{Knows, ShowsState, IsRow}, WordSteps.IsFair}
+use Rattle.lc_board.specs.{Growth.{GoesOn, IsEnded, put, job_at, IsMatched}, WordCode.{shown, code}}
+use Rattle.lc_board.specs.WordHistory.{Homes, SlotHolds, HasJoined}
+use Rattle.lc_board.specs.{WordHistory.{Knows, ShowsState, ShowsHistory}, WordSteps.IsFair}
 use Rattle.lc_board.specs.declared.{words.{coding.Word.Word, view.{Slot.Slot, View.View}}, event.Event.Event}
 use Rattle.lc_board.proofs.{HeldClaims.part_tells_claim, Growths.{at_put, put_else, whole, goes_trans, rank_most, rank_from}}
 use Rattle.lc_board.specs.declared.words.coding.Word.TheVariants as word
@@ -23,16 +25,11 @@ pub record IsApart (u : ℕ) (faces faces' : ℕ → Word) : Type 0 where
 
 -- a status that is claimed is that of one word alone
 pub of_shown : (c : Word) (w : ℕ) → shown c ≡ Claimed w → c ≡ word.Claimed w
-of_shown (word.Claimed u) w e = let same : u ≡ w = cc in ap word.Claimed same
-of_shown _ w e = absurd cc
+of_shown c w h1 = grind (arith, common_steps)
 
 apart_at : (u : ℕ) (faces : ℕ → Word) (i : ℕ) (c' : Word) → faces i ≢ word.Drawn u → c' ≢ word.Drawn u → c' ≢ word.Claimed u
     → IsApart u faces (put faces i c')
-apart_at u faces i c' a c d = record {
-  drawn_to = λ k e. at_put faces i c' (λ z f. z ≡ k → f ≡ word.Drawn u) k (λ x. absurd (a (ap faces x ∙ e))) (λ _ _. e) refl;
-  drawn_from = λ k. at_put faces i c' (λ z f. f ≡ word.Drawn u → faces z ≡ word.Drawn u) k (λ e. absurd (c e)) (λ _ e. e);
-  taken_from = λ k. at_put faces i c' (λ z f. f ≡ word.Claimed u → faces z ≡ word.Claimed u) k (λ e. absurd (d e)) (λ _ e. e);
-}
+apart_at u faces i c' h1 h2 h3 = grind (arith, common_steps, at_put)
 
 -- nothing moved for it
 pub apart_same : (u : ℕ) (faces : ℕ → Word) → IsApart u faces faces
@@ -45,8 +42,7 @@ agree_put s faces i m c' is old k = elim (eqb k i) as (λ b. cond b m (s k) ≡ 
 
 more_at : (faces : ℕ → Word) (i : ℕ) (c' : Word) → c' ≢ word.Absent → (k : ℕ) → put faces i c' k ≡ word.Absent
     → (k ≢ i) × (faces k ≡ word.Absent)
-more_at faces i c' ne k =
-    at_put faces i c' (λ z f. f ≡ word.Absent → (z ≢ i) × (faces z ≡ word.Absent)) k (λ e. absurd (ne e)) (λ o e. (o, e))
+more_at faces i c' h1 k h2 = grind (arith, common_steps, at_put)
 
 -- the same of two that are there
 pub same_some : {a b : ℕ} → Path (Option ℕ) (Some a) (Some b) → a ≡ b
@@ -54,7 +50,7 @@ same_some e = cc
 
 module _ {J R : Type 0} where
   -- what a pass has claimed, as its events say it
-  pub held_is : (root : Option J) (workers : ℕ) (s : State (Slot J R) (View J R)) (r : IsRow root workers s) (me : ℕ) (v : View J R)
+  pub held_is : (root : Option J) (workers : ℕ) (s : State (Slot J R) (View J R)) (r : ShowsHistory root workers s) (me : ℕ) (v : View J R)
       → Knows root workers r.history r.faces r.owner me v
       → (i : ℕ) → (holding v.mine ≡ Some i) ↔ (status r.history i ≡ Claimed v.worker)
   held_is root workers s r me v k i =
@@ -63,12 +59,7 @@ module _ {J R : Type 0} where
 
   still_joined : (h h' : List (Event J R)) (faces faces' : ℕ → Word) (owner : ℕ → Option ℕ) (j worker u : ℕ) (m : List (Event J R))
       → part u h' ≡ part u h → IsApart u faces faces' → HasJoined h faces owner j worker u m → HasJoined h' faces' owner j worker u m
-  still_joined h h' faces faces' owner j worker u m same apart x = record {
-    owned = x.owned;
-    other = x.other;
-    events = same ∙ x.events;
-    idle = λ k e. x.idle k (apart.drawn_from k e);
-  }
+  still_joined h h' faces faces' owner j worker u m h1 h2 h3 = grind (arith, common_steps)
 
   others_know : (root : Option J) (workers : ℕ) (h h' : List (Event J R)) (faces faces' : ℕ → Word) (owner : ℕ → Option ℕ) (j : ℕ)
       (d : View J R)
@@ -97,7 +88,7 @@ module _ {J R : Type 0} where
       (v d : View J R) → Knows root workers h faces owner me v → Knows root workers h faces owner j d → j ≢ me → d.worker ≢ v.worker
   other_worker root workers h faces owner me j v d a b ne e = ne (same_some (sym b.owns ∙ (ap owner e ∙ a.owns)))
 
-  pub record IsNext (root : Option J) (workers : ℕ) (s : State (Slot J R) (View J R)) (r : IsRow root workers s) (worker : ℕ)
+  pub record IsNext (root : Option J) (workers : ℕ) (s : State (Slot J R) (View J R)) (r : ShowsHistory root workers s) (worker : ℕ)
       (h' : List (Event J R)) (faces' : ℕ → Word) (words' : List ℕ) (homes' : Homes J R) : Type 0 where
     pub long : length homes' ≡ length s.homes
     pub wide : length words' ≡ length s.words
@@ -110,11 +101,11 @@ module _ {J R : Type 0} where
     pub more : (k : ℕ) → faces' k ≡ word.Absent → r.faces k ≡ word.Absent
 
   -- the row of words after one worker's step, from what its pass knows
-  rebuilt : (root : Option J) (workers : ℕ) (s : State (Slot J R) (View J R)) (r : IsRow root workers s) (me : ℕ) (v : View J R)
+  rebuilt : (root : Option J) (workers : ℕ) (s : State (Slot J R) (View J R)) (r : ShowsHistory root workers s) (me : ℕ) (v : View J R)
       → get_elem? s.views me ≡ some v → v.live ≡ true
       → (h' : List (Event J R)) (faces' : ℕ → Word) (words' : List ℕ) (homes' : Homes J R) (w : View J R)
       → IsNext root workers s r v.worker h' faces' words' homes' → Knows root workers h' faces' r.owner me w
-      → IsRow root workers record { words = words'; homes = homes'; views = set s.views me w }
+      → ShowsHistory root workers record { words = words'; homes = homes'; views = set s.views me w }
   rebuilt root workers s r me v at lives h' faces' words' homes' w n mine = let len : length s.homes ≡ length homes' = sym n.long in
       record {
         history = h';
@@ -144,8 +135,8 @@ module _ {J R : Type 0} where
       }
 
   -- the numbers that a pass knows to have ended still have
-  pub still_ended : (root : Option J) (workers : ℕ) (s : State (Slot J R) (View J R)) (r : IsRow root workers s) (me : ℕ) (v : View J R)
-      → Knows root workers r.history r.faces r.owner me v → (h' : List (Event J R)) → IsLegal (length s.homes) workers h'
+  pub still_ended : (root : Option J) (workers : ℕ) (s : State (Slot J R) (View J R)) (r : ShowsHistory root workers s) (me : ℕ)
+      (v : View J R) → Knows root workers r.history r.faces r.owner me v → (h' : List (Event J R)) → IsLegal (length s.homes) workers h'
       → GoesOn h' r.history → (i : ℕ) → i < v.low → IsEnded (status h' i)
   still_ended root workers s r me v k h' legal grows i below = let a = k.low i below in let b = rank_from (length s.homes) workers h' v.seen
       legal (goes_trans h' r.history v.seen grows k.seen) i in let c = rank_most (status h' i) in omega arith
@@ -163,11 +154,11 @@ module _ {J R : Type 0} where
     pub used : (k : ℕ) → k < front → faces k ≢ word.Absent
 
   -- the row of words after one worker's step, of which its pass has seen all, and what that has seen is fair
-  pub steps_on : (root : Option J) (workers : ℕ) (s : State (Slot J R) (View J R)) (r : IsRow root workers s) (me : ℕ) (v : View J R)
+  pub steps_on : (root : Option J) (workers : ℕ) (s : State (Slot J R) (View J R)) (r : ShowsHistory root workers s) (me : ℕ) (v : View J R)
       → get_elem? s.views me ≡ some v → v.live ≡ true → (i : ℕ)
       → (h' : List (Event J R)) (faces' : ℕ → Word) (words' : List ℕ) (homes' : Homes J R) (mine : List (Event J R)) (drawn low front : ℕ)
       → IsNext root workers s r v.worker h' faces' words' homes' → IsTold v.worker h' faces' mine drawn low front
-      → IsRow root workers record { words = words'; homes = homes'; views = set s.views me (moved v i h' mine drawn low front) }
+      → ShowsHistory root workers record { words = words'; homes = homes'; views = set s.views me (moved v i h' mine drawn low front) }
       × IsFair (length s.homes) (moved v i h' mine drawn low front)
   steps_on root workers s r me v at lives i h' faces' words' homes' mine drawn low front n told = let k = r.each_seat me v at lives in (
     rebuilt root workers s r me v at lives h' faces' words' homes' (moved v i h' mine drawn low front) n record {
@@ -197,14 +188,10 @@ module _ {J R : Type 0} where
   pub lies_stay : (root : Option J) (h h' : List (Event J R)) (hs hs' : Homes J R) (k : ℕ) → get_elem? hs' k ≡ get_elem? hs k
       → job_at root h' k ≡ job_at root h k → row_given h' k ≡ row_given h k → (c : Word) → SlotHolds root h hs k c
       → SlotHolds root h' hs' k c
-  lies_stay root h h' hs hs' k a b d word.Absent l = a ∙ l
-  lies_stay root h h' hs hs' k a b d word.Open l = (l.0, a ∙ l.1, b ∙ l.2)
-  lies_stay root h h' hs hs' k a b d word.Returned l = (l.0, a ∙ l.1, d ∙ l.2)
-  lies_stay root h h' hs hs' k a b d word.Faulted l = (l.0, a ∙ l.1, d ∙ l.2)
-  lies_stay root h h' hs hs' k a b d _ l = tt
+  lies_stay root h h' hs hs' k h1 h2 h3 c h4 = grind (arith, common_steps)
 
   -- what a step on the number i owes
-  pub record IsTurn (root : Option J) (workers : ℕ) (s : State (Slot J R) (View J R)) (r : IsRow root workers s) (worker i : ℕ)
+  pub record IsTurn (root : Option J) (workers : ℕ) (s : State (Slot J R) (View J R)) (r : ShowsHistory root workers s) (worker i : ℕ)
       (h' : List (Event J R)) (c' : Word) (homes' : Homes J R) : Type 0 where
     pub near : i < length s.homes
     pub long : length homes' ≡ length s.homes
@@ -223,7 +210,7 @@ module _ {J R : Type 0} where
     pub loose : (u : ℕ) → u ≢ worker → (r.faces i ≢ word.Drawn u) × (c' ≢ word.Drawn u) × (c' ≢ word.Claimed u)
 
   -- one word and one home that turn together
-  pub turned : (root : Option J) (workers : ℕ) (s : State (Slot J R) (View J R)) (r : IsRow root workers s) (worker i : ℕ)
+  pub turned : (root : Option J) (workers : ℕ) (s : State (Slot J R) (View J R)) (r : ShowsHistory root workers s) (worker i : ℕ)
       (h' : List (Event J R)) (c' : Word) (homes' : Homes J R) → IsTurn root workers s r worker i h' c' homes'
       → IsNext root workers s r worker h' (put r.faces i c') (set s.words i (code c')) homes'
   turned root workers s r worker i h' c' homes' t = record {

@@ -23,7 +23,7 @@ pub mod Laws
 pub mod Scripts
 pub mod Growth
 pub mod WordCode
-pub mod WordRow
+pub mod WordHistory
 pub mod WordSteps
 pub mod WordBounds
 pub mod WordPass

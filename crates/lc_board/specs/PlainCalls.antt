@@ -20,10 +20,10 @@ module _ {J R : Type 0} where
   IsHeld _ = ⊥
 
   -- the number is open or claimed
-  abbrev pub IsLeft : Option (Cell J R) → Type 0
-  IsLeft (Some (Waiting j)) = Unit {0}
-  IsLeft (Some (Held w n)) = Unit {0}
-  IsLeft _ = ⊥
+  abbrev pub IsPending : Option (Cell J R) → Type 0
+  IsPending (Some (Waiting j)) = Unit {0}
+  IsPending (Some (Held w n)) = Unit {0}
+  IsPending _ = ⊥
 
   abbrev pub NoneOpen : Board J R → Type 0
   NoneOpen b = (k : ℕ) → ¬ IsOpen (cell_at b k)
@@ -31,8 +31,8 @@ module _ {J R : Type 0} where
   abbrev pub NoneHeld : Board J R → Type 0
   NoneHeld b = (k : ℕ) → ¬ IsHeld (cell_at b k)
 
-  abbrev pub NoneLeft : Board J R → Type 0
-  NoneLeft b = (k : ℕ) → ¬ IsLeft (cell_at b k)
+  abbrev pub NonePending : Board J R → Type 0
+  NonePending b = (k : ℕ) → ¬ IsPending (cell_at b k)
 
   -- the least open number, with its job
   pub record IsLeastOpen (b : Board J R) (i : ℕ) (j : J) : Type 0 where
@@ -40,8 +40,8 @@ module _ {J R : Type 0} where
     pub least : (k : ℕ) → k < i → ¬ IsOpen (cell_at b k)
 
   -- the least number that is open or claimed
-  abbrev pub IsLeftLeast : Board J R → ℕ → Type 0
-  IsLeftLeast b n = IsLeft (cell_at b n) × ((k : ℕ) → k < n → ¬ IsLeft (cell_at b k))
+  abbrev pub IsLeastPending : Board J R → ℕ → Type 0
+  IsLeastPending b n = IsPending (cell_at b n) × ((k : ℕ) → k < n → ¬ IsPending (cell_at b k))
 
   -- what a claim of a worker returns: the least open number; or Later if no number is open and some number is claimed; or Over
   abbrev pub AnswersClaim : ℕ → Board J R → Claim J → Board J R → Type 0
@@ -60,6 +60,6 @@ module _ {J R : Type 0} where
 
   -- why the board returns no rows
   abbrev pub RefusesRows : Board J R → CloseFault → Type 0
-  RefusesRows b (close.Unfinished n) = IsLeftLeast b n
+  RefusesRows b (close.Unfinished n) = IsLeastPending b n
   RefusesRows b (close.Mismatch w) = ⊥
-  RefusesRows b close.Memory = NoneLeft b
+  RefusesRows b close.Memory = NonePending b

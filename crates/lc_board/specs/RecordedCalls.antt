@@ -1,7 +1,7 @@
 -- What the calls of the board under a lock return.
 use Rattle.std.specs.Prelude.{◌≡◌, ◌≢◌, ℕ, ◌<◌, Bool, true, false, List, ◌∷◌, map, Some, None, Result, Ok, Err, slice_get}
 use Rattle.lc_board.specs.{Part.part, Bare.bare, PlainBoard.{Board, IsFull, workers_of, held_by, posts_by, Adds}, PlainCalls.AnswersClaim}
-use Rattle.lc_board.specs.{PlainCalls.{AnswersPost, IsLeftLeast, NoneLeft}, Pass.Pass, ClosedBoard.Promises, RecordedBoard.Record}
+use Rattle.lc_board.specs.{PlainCalls.{AnswersPost, IsLeastPending, NonePending}, Pass.Pass, ClosedBoard.Promises, RecordedBoard.Record}
 use Rattle.lc_board.specs.declared.{event.Event.Event, answers.{Claim.Claim, CloseFault.CloseFault, PostFault.PostFault}}
 use Rattle.lc_board.specs.declared.event.Event.TheVariants as event
 use Rattle.lc_board.specs.declared.answers.Claim.TheVariants as answer
@@ -53,7 +53,7 @@ module _ {J R : Type 0} where
 
   -- only memory for the rows is missing: no number is open or claimed, and the history agrees with each pass
   pub record IsReady (r : Record J R) (passes : List (Pass J R)) : Type 0 where
-    pub none_left : NoneLeft r.board
+    pub none_left : NonePending r.board
     pub agrees : (w : ℕ) (p : Pass J R) → slice_get passes w ≡ Some p → part w r.history ≡ map bare p.mine
 
   -- when `close` returns Memory: only memory for the rows was missing, or the board has another capacity or number of workers than `close`
@@ -64,7 +64,7 @@ module _ {J R : Type 0} where
   -- why the board is not closed: the least number that has not ended; otherwise a worker whose events in the history differ from its pass;
   -- otherwise memory
   abbrev pub RefusesRecorded : Record J R → ℕ → ℕ → List (Pass J R) → CloseFault → Type 0
-  RefusesRecorded r capacity workers passes (close.Unfinished n) = IsLeftLeast r.board n
-  RefusesRecorded r capacity workers passes (close.Mismatch w) = NoneLeft r.board
+  RefusesRecorded r capacity workers passes (close.Unfinished n) = IsLeastPending r.board n
+  RefusesRecorded r capacity workers passes (close.Mismatch w) = NonePending r.board
       × ((p : Pass J R) → slice_get passes w ≡ Some p → part w r.history ≢ map bare p.mine)
   RefusesRecorded r capacity workers passes close.Memory = RefusesMemory r capacity workers passes

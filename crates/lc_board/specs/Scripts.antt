@@ -25,8 +25,8 @@ one_fault = Over 0 ∷ Fault 0 0 10 ∷ Claim 0 0 7 ∷ []
 abbrev pub posting : Script
 posting = Post 0 0 2 8 ∷ Post 0 0 1 9 ∷ Claim 0 0 7 ∷ []
 
--- Three histories that are not legal: the root is claimed twice; a claim under which something was posted is ended by an error; a board of
--- one number has another.
+-- Three histories that are not legal: the root is claimed twice; a claim under which something was posted is ended by an error; the number
+-- 1 is posted on a board whose only number is 0.
 abbrev pub second_claim : Script
 second_claim = Claim 1 0 7 ∷ Claim 0 0 7 ∷ []
 

@@ -4,7 +4,7 @@ use Rattle.std.specs.Prelude.{Err}
 use mathlib.Core.Option.{some}
 use lib.ListN.{get_elem?}
 use Rattle.lc_board.specs.{State.{Status, Returned, Faulted, status}, RowsInPlace.row_given, Growth.IsEnded}
-use Rattle.lc_board.specs.{WordCode.{shown, word_of, is_absent, has_ended}, WordRow.ShowsState, declared.words.coding.Word.Word}
+use Rattle.lc_board.specs.{WordCode.{shown, word_of, is_absent, has_ended}, WordHistory.ShowsState, declared.words.coding.Word.Word}
 use Rattle.lc_board.specs.declared.{event.Event.Event, answers.Ended.Ended, words.view.{Slot.{Slot, TheVariants.Row}, View.View}}
 use Rattle.lc_board.specs.{Pass.Pass, ClosedBoard.{Promises, HasParts}}
 use Rattle.lc_board.specs.declared.words.coding.Word.TheVariants as word
@@ -60,7 +60,8 @@ module _ {J R : Type 0} where
   IsPlaced h xs k = (r : R) × (get_elem? xs k ≡ some (Row r)) × (row_given h k ≡ ended_as (status h k) r)
 
   -- the words and slots of a closed board: one legal history, whose parts are the passes' events, with each row in its slot
-  pub record IsClosedRow (root : Option J) (workers : ℕ) (passes : List (Pass J R)) (codes : List ℕ) (xs : List (Slot J R)) : Type 0 where
+  pub record ShowsClosedHistory (root : Option J) (workers : ℕ) (passes : List (Pass J R)) (codes : List ℕ)
+      (xs : List (Slot J R)) : Type 0 where
     pub history : List (Event J R)
     pub faces : ℕ → Word
     pub state : ShowsState root workers (length xs) codes history faces

@@ -1,6 +1,6 @@
 -- How the fields of a pass of a board of words agree with what the pass knows and which slots it holds.
 use Rattle.std.specs.Prelude.{◌≡◌, ℕ, ◌<◌, ◌≤◌, true, List, [], ◌∷◌, map, Option, Some, None}
-use Rattle.lc_board.specs.{Holding.{holding, posted}, State.status, Growth.{IsTaken, rank}, WordRow.Seated, declared.event.Event.Event}
+use Rattle.lc_board.specs.{Holding.{holding, posted}, State.status, Growth.{IsTaken, rank}, WordHistory.Seated, declared.event.Event.Event}
 use Rattle.lc_board.specs.declared.words.{newest.Newest.Newest, view.Slot.{Slot, TheVariants.{Empty, Job, Row}}}
 
 -- the kind of a slot, as a number: two numbers are equal in one way only, which is not known of slots

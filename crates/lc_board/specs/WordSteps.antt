@@ -4,7 +4,7 @@ use Rattle.std.specs.Prelude.{◌++◌, Option, Some, None}
 use Rattle.atomic_table.specs.Table.{Step, rest}
 use Rattle.lc_board.specs.{State.{Absent, Open, Claimed, Returned, Faulted, status}, Part.part, LegalHistory.IsLegal, Holding.holding}
 use Rattle.lc_board.specs.{Growth.{GoesOn, IsEnded, IsMatched}, WordCode.{code, word_of, end_word, is_absent, is_open, has_ended, is_taken}}
-use Rattle.lc_board.specs.{Ending.{end_event, row_in}, WordRow.Seated, declared.{answers.Ended.Ended, event.Event.Event}}
+use Rattle.lc_board.specs.{Ending.{end_event, row_in}, WordHistory.Seated, declared.{answers.Ended.Ended, event.Event.Event}}
 use Rattle.lc_board.specs.declared.{event.Event.TheVariants.{Post, Claim, Over}, words.{coding.Word.Word, view.Slot.Slot}}
 use Rattle.lc_board.specs.declared.words.view.{Slot.TheVariants.{Empty, Job, Row}, View.View}
 use Rattle.lc_board.specs.declared.words.coding.Word.TheVariants as word
@@ -128,8 +128,8 @@ module _ {J R : Type 0} where
   drew st m r m' = TriesDraw st.slots st.word (is_absent (word_of r)) m m'
 
   -- the step that looks at the number at the front; if that number is used, the front moves past it
-  abbrev pub stepped_over : Step (Slot J R) → Seated J R → ℕ → Seated J R → Type 0
-  stepped_over st m r m' = (m'.1 ≡ m.1) × Same m.0 m'.0 × (m'.0.drawn ≡ m.0.drawn) × (m'.0.low ≡ m.0.low)
+  abbrev pub front_moved : Step (Slot J R) → Seated J R → ℕ → Seated J R → Type 0
+  front_moved st m r m' = (m'.1 ≡ m.1) × Same m.0 m'.0 × (m'.0.drawn ≡ m.0.drawn) × (m'.0.low ≡ m.0.low)
       × (m'.0.front ≡ cond (is_absent (word_of r)) m.0.front (st.word + 1)) × ExtendsFairly st.slots m.0 m'.0 × TakesStep st.word m.0 m'.0
 
   -- the pass returns the slot that it took last to the board
@@ -158,8 +158,8 @@ module _ {J R : Type 0} where
       × AddsEvent st.slots m.0 (end_event m.0.worker st.word e) m'.0) × TakesStep st.word m.0 m'.0
 
   -- the step of a pass that has a claim when the board is about to be closed: the claim stays, and its slot is returned to the board
-  abbrev pub put_down : Step (Slot J R) → Seated J R → ℕ → Seated J R → Type 0
-  put_down st m r m' = Leaves m m' × Extends m.0 m'.0 × TakesStep st.word m.0 m'.0
+  abbrev pub slot_released : Step (Slot J R) → Seated J R → ℕ → Seated J R → Type 0
+  slot_released st m r m' = Leaves m m' × Extends m.0 m'.0 × TakesStep st.word m.0 m'.0
 
   -- what the first pass knows at the start; this pass makes the other passes
   abbrev pub view_before_split : Option J → ℕ → View J R
@@ -179,12 +179,12 @@ module _ {J R : Type 0} where
   }
 
   -- what a pass knows after it has made one more pass
-  abbrev pub left_of_split : View J R → View J R
-  left_of_split v = record v { made = v.made + 1 }
+  abbrev pub kept_by_split : View J R → View J R
+  kept_by_split v = record v { made = v.made + 1 }
 
   -- what the pass that was made knows
-  abbrev pub right_of_split : View J R → View J R
-  right_of_split v = record {
+  abbrev pub given_by_split : View J R → View J R
+  given_by_split v = record {
     live = true;
     root = v.root;
     workers = v.workers;

@@ -3,8 +3,9 @@ ghost use Rattle.std.specs.Prelude.{◌≡◌, ◌≢◌, ℕ, ◌<◌, ◌≤�
 ghost use Rattle.std.specs.Prelude.{MatchBool};
 ghost use Rattle.lc_board.specs.{Ending.{MayEnd, end_event}, LegalHistory.IsOver, RowsInPlace.InPlace};
 ghost use Rattle.lc_board.specs.PlainBoard.{IsAfter, IsFull, Adds, first_board, workers_of, held_by, posts_by, cell_at};
-ghost use Rattle.lc_board.specs.PlainCalls.{AnswersClaim, AnswersPost, RefusesRows, cell_of, NoneOpen, NoneHeld, IsLeftLeast, NoneLeft};
-ghost use Rattle.lc_board.specs.{PlainCalls.IsLeft, declared.event.Event.TheVariants.{Return, Fault}};
+ghost use Rattle.lc_board.specs.PlainCalls.{AnswersClaim, AnswersPost, RefusesRows, cell_of};
+ghost use Rattle.lc_board.specs.PlainCalls.{NoneOpen, NoneHeld, IsLeastPending, NonePending};
+ghost use Rattle.lc_board.specs.{PlainCalls.IsPending, declared.event.Event.TheVariants.{Return, Fault}};
 ghost use Rattle.lc_board.specs.Limits.{capacity_limit, workers_limit};
 
 use crate::answers::{Claim, CloseFault, Closed, Ended, PostFault};
@@ -15,7 +16,7 @@ mod cell;
 mod scans;
 
 use cell::Cell;
-use scans::{all_ended, first_left, is_any_held};
+use scans::{all_ended, first_pending, is_any_held};
 
 /// A single-threaded board, which has a number for each directory. In contracts the board's value is its capacity, the number of the
 /// directory that each worker has claimed, and a list of cells. The cell at an index stores the state of the directory whose number is this
@@ -151,7 +152,7 @@ impl<J: Drop, R: Drop> Plain<J, R> {
     /// Returns whether all directories on the board are finished.
     pub fn is_over(&self) -> bool
         ensures over { result ≡ true → NoneOpen self.now × NoneHeld self.now }
-        ensures left { result ≡ false → (k : ℕ) × IsLeft (cell_at self.now k) }
+        ensures left { result ≡ false → (k : ℕ) × IsPending (cell_at self.now k) }
     {
         if (self.next as usize) < self.cells.len() {
             return false;
@@ -166,7 +167,7 @@ impl<J: Drop, R: Drop> Plain<J, R> {
         ensures fault { IfErr result (RefusesRows self) }
     {
         let Plain { cells, .. } = self;
-        if let Some(number) = first_left(&cells) {
+        if let Some(number) = first_pending(&cells) {
             return Err(CloseFault::Unfinished(number));
         }
         match all_ended(alloc, cells) {
@@ -216,10 +217,10 @@ impl<J: Drop, R: Drop> Plain<J, R> {
     }
 
     /// Returns the least number of a directory that is not finished: it waits for a worker, or a worker has claimed it.
-    pub(crate) fn first_left(&self) -> Option<u32>
-        ensures some { IfSome result (IsLeftLeast self.now) }
-        ensures none { IfNone result (NoneLeft self.now) }
+    pub(crate) fn first_pending(&self) -> Option<u32>
+        ensures some { IfSome result (IsLeastPending self.now) }
+        ensures none { IfNone result (NonePending self.now) }
     {
-        first_left(&self.cells)
+        first_pending(&self.cells)
     }
 }

@@ -190,7 +190,7 @@ impl<J: Drop, R: Drop> Recorded<J, R> {
         if plain.capacity() != capacity || plain.workers() != workers {
             return Err(CloseFault::Memory);
         }
-        if let Some(number) = plain.first_left() {
+        if let Some(number) = plain.first_pending() {
             return Err(CloseFault::Unfinished(number));
         }
         if let Some(worker) = first_mismatch(history.as_slice(), passes) {

@@ -1,6 +1,6 @@
 //! What a single-threaded board stores for one directory.
 ghost use Rattle.std.specs.Prelude.{◌≡◌, ℕ, ◌+◌, ◌<◌, Some, MatchBool};
-ghost use Rattle.lc_board.specs.{PlainBoard.posts_in, PlainCalls.{IsOpen, IsHeld, IsLeft, cell_of}};
+ghost use Rattle.lc_board.specs.{PlainBoard.posts_in, PlainCalls.{IsOpen, IsHeld, IsPending, cell_of}};
 ghost use Rattle.lc_board.specs.{declared.plain.cell.Cell.TheVariants.{Waiting, Held}, Limits.capacity_limit};
 
 use crate::answers::Ended;
@@ -47,7 +47,7 @@ impl<J: Drop, R: Drop> Cell<J, R> {
 
     /// Returns the row of the directory of this cell. The directory must be finished (`Done`).
     pub(crate) fn into_row(self) -> Ended<R>
-        requires { ¬ IsLeft (Some self) }
+        requires { ¬ IsPending (Some self) }
         ensures { cell_of result ≡ self }
     {
         match self {
@@ -72,8 +72,8 @@ impl<J, R> Cell<J, R> {
     }
 
     /// Returns whether the directory is not finished: it waits for a worker, or a worker has claimed it.
-    pub(crate) fn is_left(&self) -> bool
-        ensures { MatchBool result (IsLeft (Some self.now)) (¬ IsLeft (Some self.now)) }
+    pub(crate) fn is_pending(&self) -> bool
+        ensures { MatchBool result (IsPending (Some self.now)) (¬ IsPending (Some self.now)) }
     {
         match self {
             Cell::Waiting(_) => true,

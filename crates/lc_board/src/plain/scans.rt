@@ -1,6 +1,6 @@
 //! Searches in `Plain`, the board for one thread: among its directories, and among the directories that its workers have claimed.
 ghost use Rattle.std.specs.Prelude.{◌≡◌, ◌≢◌, ℕ, ◌<◌, ◌≤◌, false, true, Some, IfOk, IfSome, IfNone, length, map, slice_get};
-ghost use Rattle.lc_board.specs.{PlainCalls.{IsLeft, cell_of}, Limits.capacity_limit};
+ghost use Rattle.lc_board.specs.{PlainCalls.{IsPending, cell_of}, Limits.capacity_limit};
 
 use crate::answers::Ended;
 use crate::plain::cell::Cell;
@@ -21,13 +21,13 @@ pub fn is_any_held(held: &[Option<u32>]) -> bool
 
 /// Returns the least number of a directory that is not finished: it waits for a worker, or a worker has claimed it. The index of a cell is
 /// the number of its directory.
-pub fn first_left<J, R>(cells: &[Cell<J, R>]) -> Option<u32>
+pub fn first_pending<J, R>(cells: &[Cell<J, R>]) -> Option<u32>
     requires { length cells.now ≤ capacity_limit }
-    ensures some { IfSome result (λ n. IsLeft (slice_get cells.now n) × ((k : ℕ) → k < n → ¬ IsLeft (slice_get cells.now k))) }
-    ensures none { IfNone result ((k : ℕ) → ¬ IsLeft (slice_get cells.now k)) }
+    ensures some { IfSome result (λ n. IsPending (slice_get cells.now n) × ((k : ℕ) → k < n → ¬ IsPending (slice_get cells.now k))) }
+    ensures none { IfNone result ((k : ℕ) → ¬ IsPending (slice_get cells.now k)) }
 {
     for at in 0..cells.len() {
-        if cells[at].is_left() {
+        if cells[at].is_pending() {
             return Some(at as u32);
         }
     }
@@ -39,7 +39,7 @@ pub fn all_ended<J: Drop, R: Drop>(
     alloc: Global,
     cells: Vec<Cell<J, R>>,
 ) -> Result<Vec<Ended<R>>, AllocError>
-    requires { (k : ℕ) → ¬ IsLeft (slice_get cells.items k) }
+    requires { (k : ℕ) → ¬ IsPending (slice_get cells.items k) }
     ensures { IfOk result (λ rows. map cell_of rows.items ≡ cells.items) }
 {
     let mut rows = Vec::with_capacity(alloc, cells.len())?;

@@ -3,14 +3,14 @@
 ghost use Rattle.std.specs.Prelude.{◌≡◌, ℕ, ◌<◌, ◌≤◌, true, false, slice_index_or, slice_get, [], Some, IfOk, map, vec_len};
 ghost use Rattle.std.specs.Mem.Slots.{slots_items, slots_filled, slots_len, IsFull, Ownership.Filled};
 ghost use Rattle.lc_board.specs.{WordSteps.{IsSameTold, merged}, WordsBoard.{IsPassOf, IsSamePass, known, told}};
-ghost use Rattle.lc_board.specs.WordClose.{TellsEnded, EndedBelow, HasRows, IsClosedRow, TakesRows, ended_as};
+ghost use Rattle.lc_board.specs.WordClose.{TellsEnded, EndedBelow, HasRows, ShowsClosedHistory, TakesRows, ended_as};
 ghost use Rattle.lc_board.specs.WordCode.{has_ended, shown};
 
 use crate::answers::Ended;
 use crate::words::Words;
 use crate::words::coding::Word;
 use crate::words::pass::WordsPass;
-use crate::words::rule::{Deal, PutDown};
+use crate::words::rule::{ReleaseSlot, SplitOrMerge};
 use crate::words::view::{Slot, View};
 use atomic_table::{Closed, Seat};
 use std::alloc::{AllocError, Global};
@@ -110,7 +110,7 @@ impl<J, R> Words<J, R> {
             Some(number) => number,
         };
         let shared = &self.table.shared;
-        shared.load::<PutDown>(&mut seat, number as usize);
+        shared.load::<ReleaseSlot>(&mut seat, number as usize);
         seat
     }
 
@@ -122,7 +122,9 @@ impl<J, R> Words<J, R> {
     {
         let front = other.front;
         let seat = self.emptied(other);
-        self.table.shared.join_seat::<Deal>(&mut pass.seat, seat);
+        self.table
+            .shared
+            .join_seat::<SplitOrMerge>(&mut pass.seat, seat);
         if pass.front < front {
             pass.front = front;
         }
@@ -135,7 +137,7 @@ impl<J, R> Words<J, R> {
         requires each { (w : ℕ) (p : _) → slice_get passes.items w ≡ Some p → IsPassOf self p × (p.worker ≡ w) }
         ensures sizes { (slots_len result.words ≡ self.capacity) × (slots_len result.slots ≡ self.capacity) }
         ensures full { IsFull result.words × IsFull result.slots }
-        ensures row { IsClosedRow (Some self.table.shared.key.root.value) self.workers (map told passes.items)
+        ensures row { ShowsClosedHistory (Some self.table.shared.key.root.value) self.workers (map told passes.items)
             (slots_items result.words) (slots_items result.slots) }
     {
         let Some(mut pass) = passes.pop() else {

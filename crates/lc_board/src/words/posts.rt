@@ -8,13 +8,13 @@ use crate::answers::PostFault;
 use crate::words::Words;
 use crate::words::coding::Word;
 use crate::words::pass::WordsPass;
-use crate::words::rule::StepOver;
+use crate::words::rule::MoveFront;
 use crate::words::view::Slot;
 
 impl<J, R> Words<J, R> {
     /// Reads the word of the number at the pass's front, where the search for an unused number begins. If that number is used, moves the
     /// front to the next number and returns true.
-    fn step_over(&self, pass: &mut WordsPass<J, R>) -> bool
+    fn move_front(&self, pass: &mut WordsPass<J, R>) -> bool
         requires board { IsPassOf self.now pass.old }
         requires holds { IsSome pass.old.holding }
         requires near { pass.old.front < self.now.capacity }
@@ -25,7 +25,7 @@ impl<J, R> Words<J, R> {
     {
         let number = pass.front;
         let shared = &self.table.shared;
-        let found = Word::of(shared.load::<StepOver>(&mut pass.seat, number as usize));
+        let found = Word::of(shared.load::<MoveFront>(&mut pass.seat, number as usize));
         if found.is_absent() {
             return false;
         }
@@ -66,7 +66,7 @@ impl<J, R> Words<J, R> {
         ensures rule { TriesPost self.now pass.old job result pass.new }
         ensures steps { PostSteps 2 pass.old.front result (known pass.old) (known pass.new) }
     {
-        if self.step_over(pass) {
+        if self.move_front(pass) {
             return Err(job);
         }
         match self.draw_and_open(pass, job) {

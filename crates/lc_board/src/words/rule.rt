@@ -2,9 +2,9 @@
 //! workers read and change a word. The definition of each step states what the worker knows of the board after the step. Each step adds
 //! its word's number to the steps in the worker's `View`.
 ghost use Rattle.std.specs.Prelude.{Some};
-ghost use Rattle.lc_board.specs.WordRow.{IsRow};
-ghost use Rattle.lc_board.specs.WordSteps.{looked, stepped_over, drew, opened, claimed, ended, put_down};
-ghost use Rattle.lc_board.specs.WordSteps.{view_before_split, left_of_split, right_of_split, merged, spent};
+ghost use Rattle.lc_board.specs.WordHistory.{ShowsHistory};
+ghost use Rattle.lc_board.specs.WordSteps.{looked, front_moved, drew, opened, claimed, ended, slot_released};
+ghost use Rattle.lc_board.specs.WordSteps.{view_before_split, kept_by_split, given_by_split, merged, spent};
 
 use crate::words::view::{Slot, View};
 use atomic_table::{Join, Play, Split, TableRule};
@@ -21,7 +21,7 @@ pub struct BoardSetup<J> {
 pub struct OneHistory;
 
 impl<J, R> TableRule<Slot<J, R>, View<J, R>, BoardSetup<J>> for OneHistory {
-    ghost holds = { λ key. IsRow (Some key.root.value) key.workers };
+    ghost holds = { λ key. ShowsHistory (Some key.root.value) key.workers };
 
     ghost first = { λ key. view_before_split (Some key.root.value) key.workers };
 }
@@ -34,10 +34,10 @@ impl<J, R> Play<Slot<J, R>, View<J, R>> for Look {
 
 /// A step of a worker's search for an unused number. The worker reads the word of the number at its front, below which all numbers are
 /// used. If the number at the front is also used, the front moves past this number.
-pub struct StepOver;
+pub struct MoveFront;
 
-impl<J, R> Play<Slot<J, R>, View<J, R>> for StepOver {
-    ghost then = { stepped_over };
+impl<J, R> Play<Slot<J, R>, View<J, R>> for MoveFront {
+    ghost then = { front_moved };
 }
 
 pub struct Draw;
@@ -66,23 +66,23 @@ impl<J, R> Play<Slot<J, R>, View<J, R>> for End {
 
 /// The step that returns a claimed directory's memory slot from the worker's pass to the board, before the board is closed. The directory
 /// stays claimed.
-pub struct PutDown;
+pub struct ReleaseSlot;
 
-impl<J, R> Play<Slot<J, R>, View<J, R>> for PutDown {
-    ghost then = { λ s m r n. put_down s m r n };
+impl<J, R> Play<Slot<J, R>, View<J, R>> for ReleaseSlot {
+    ghost then = { λ s m r n. slot_released s m r n };
 }
 
 /// The two steps that change the number of passes, which give workers access to a board. One step splits a pass into two passes, and the
 /// other merges two passes into one.
-pub struct Deal;
+pub struct SplitOrMerge;
 
-impl<J, R> Split<View<J, R>> for Deal {
-    ghost left = { left_of_split };
+impl<J, R> Split<View<J, R>> for SplitOrMerge {
+    ghost left = { kept_by_split };
 
-    ghost right = { right_of_split };
+    ghost right = { given_by_split };
 }
 
-impl<J, R> Join<View<J, R>> for Deal {
+impl<J, R> Join<View<J, R>> for SplitOrMerge {
     ghost both = { merged };
 
     ghost spent = { spent };

@@ -1,20 +1,20 @@
 //! Functions that make a board of atomic words, and the passes that give its workers access to it.
 ghost use Rattle.std.specs.Prelude.{◌≡◌, ◌<◌, ◌≤◌, ◌∷◌, replicate, IfOk, Some};
 ghost use Rattle.lc_board.specs.declared.words.{coding.Word.TheVariants.{Absent, Open}, view.Slot.TheVariants.{Empty, Job}};
-ghost use Rattle.lc_board.specs.{WordCode.code, WordSteps.{view_before_split, left_of_split, right_of_split}};
+ghost use Rattle.lc_board.specs.{WordCode.code, WordSteps.{view_before_split, kept_by_split, given_by_split}};
 ghost use Rattle.lc_board.specs.{WordsBoard.{IsNewPass, IsPassOf, IsSamePass, known}, Limits.{capacity_limit, workers_limit}};
 
 use crate::words::Words;
 use crate::words::coding::{ABSENT, OPEN};
 use crate::words::newest::Newest;
 use crate::words::pass::WordsPass;
-use crate::words::rule::{BoardSetup, Deal};
+use crate::words::rule::{BoardSetup, SplitOrMerge};
 use crate::words::view::Slot;
 use atomic_table::Table;
 use std::alloc::{AllocError, Global};
 use std::snapshot::Snapshot;
 
-fn word_row(alloc: Global, others: u32) -> Result<Vec<u64>, AllocError>
+fn new_words(alloc: Global, others: u32) -> Result<Vec<u64>, AllocError>
     ensures { IfOk result (λ v. v.items ≡ code Open ∷ replicate others (code Absent)) }
 {
     let mut row = Vec::with_capacity(alloc, others as usize + 1)?;
@@ -25,7 +25,7 @@ fn word_row(alloc: Global, others: u32) -> Result<Vec<u64>, AllocError>
     Ok(row)
 }
 
-fn slot_row<J: Drop, R: Drop>(
+fn new_slots<J: Drop, R: Drop>(
     alloc: Global,
     root: J,
     others: u32,
@@ -58,8 +58,8 @@ impl<J: Drop, R: Drop> Words<J, R> {
             root: Snapshot::of(&root),
             workers,
         };
-        let words = word_row(alloc, capacity - 1)?;
-        let slots = slot_row(alloc, root, capacity - 1)?;
+        let words = new_words(alloc, capacity - 1)?;
+        let slots = new_slots(alloc, root, capacity - 1)?;
         match Table::new(alloc, words.as_slice(), slots, &setup) {
             Ok((table, seat)) => {
                 let pass = WordsPass {
@@ -95,10 +95,10 @@ impl<J, R> Words<J, R> {
         requires next { (0 < worker) × (worker < self.now.workers)
             × ((known pass.old).made ≡ worker) × ((known pass.old).workers ≡ self.now.workers) }
         ensures same { IsSamePass pass.old pass.new × (pass.new.holding ≡ pass.old.holding)
-            × (known pass.new ≡ left_of_split (known pass.old)) }
-        ensures other { IsNewPass self.now worker (right_of_split (known pass.old)) result }
+            × (known pass.new ≡ kept_by_split (known pass.old)) }
+        ensures other { IsNewPass self.now worker (given_by_split (known pass.old)) result }
     {
-        let seat = self.table.shared.split_seat::<Deal>(&mut pass.seat);
+        let seat = self.table.shared.split_seat::<SplitOrMerge>(&mut pass.seat);
         WordsPass {
             seat,
             worker,

@@ -2,7 +2,7 @@ use Rattle.std.proofs.Common.{arith, sym, ap, ◌∙◌, refl, ℕ, ◌+◌, ◌
 use Rattle.atomic_table.specs.Table.{rest, step}
 use mathlib.Core.Option.{none}
 use Rattle.lc_board.specs.{declared.words.view.Slot.TheVariants.Job, WordPass.{AreListed, AreTaken, IsTied}}
-use Rattle.lc_board.specs.{WordCode.is_open, WordRow.Seated}
+use Rattle.lc_board.specs.{WordCode.is_open, WordHistory.Seated}
 use Rattle.lc_board.proofs.{WordClaims.claims, WordTies.{did_claim, not_claimed, tied_claimed}}
 use Rattle.lc_board.proofs.WordMarks.{keeps_added, keeps_missed, listed_on, marked_claimed, marked_missed}
 use Rattle.lc_board.specs.declared.words.coding.Word.TheVariants as word

@@ -1,6 +1,6 @@
 use Rattle.std.proofs.{Common.{◌≡◌, ◌∷◌, ap, arith, refl}, lemmas.List.replicate-append-replicate}
 use Rattle.lc_board.specs.declared.words.view.Slot.TheVariants.{Empty, Job}
-use Rattle.lc_board.proofs.words.start.slot_row.Goals as goal
+use Rattle.lc_board.proofs.words.start.new_slots.Goals as goal
 
 pub loop-init : goal.loop-init
 loop-init g c = rw (c.in_ok-push.ensures.items, c.in_ok-row.ensures.items) refl

@@ -4,7 +4,7 @@ use mathlib.Core.Option.{none}
 use Rattle.atomic_table.specs.Table.{step}
 use Rattle.lc_board.proofs.{WordPosts.steps_over, WordTies.{holds_some, tied_seen, tied_stepped}}
 use Rattle.lc_board.proofs.WordMarks.{keeps_looked, listed_on, marked_looked}
-use Rattle.lc_board.proofs.words.Words.step_over.Goals as goal
+use Rattle.lc_board.proofs.words.Words.move_front.Goals as goal
 
 pub load-requires : goal.load-requires
 load-requires g c = let p = c.args.pass.now in let t = p.ties in let sq = c.args.self.now.square in let near = c.requires.near in

@@ -1,5 +1,5 @@
 use Rattle.std.proofs.{Common.{◌≡◌, ◌∷◌, ap, arith, refl}, lemmas.List.replicate-append-replicate}
-use Rattle.lc_board.proofs.words.start.word_row.Goals as goal
+use Rattle.lc_board.proofs.words.start.new_words.Goals as goal
 
 pub loop-init : goal.loop-init
 loop-init c = rw (c.in_ok-push.ensures.items, c.in_ok-row.ensures.items) refl

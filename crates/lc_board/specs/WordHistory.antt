@@ -62,7 +62,7 @@ module _ {J R : Type 0} where
     pub together : (k l : ℕ) → k ≤ l → faces k ≡ word.Absent → faces l ≡ word.Absent
 
   -- the words show the state after one legal history; each pass has seen a beginning of it, and has all events of its worker
-  pub record IsRow (root : Option J) (workers : ℕ) (s : State (Slot J R) (View J R)) : Type 0 where
+  pub record ShowsHistory (root : Option J) (workers : ℕ) (s : State (Slot J R) (View J R)) : Type 0 where
     pub history : List (Event J R)
     pub faces : ℕ → Word
     pub owner : ℕ → Option ℕ

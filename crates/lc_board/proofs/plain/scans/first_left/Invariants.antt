@@ -1,6 +1,0 @@
-use Rattle.std.proofs.Common.{ℕ, ◌<◌, slice_get}
-use Rattle.lc_board.specs.PlainCalls.{IsLeft}
-use Rattle.lc_board.proofs.plain.scans.first_left.Given as goal
-
-abbrev pub invariant-loop-at : goal.invariant-loop-at
-invariant-loop-at g l = (k : ℕ) → k < l.at → ¬ IsLeft (slice_get l.cells k)
