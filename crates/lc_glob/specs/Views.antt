@@ -13,7 +13,7 @@ use Rattle.lc_glob.specs.declared.segment_ref.TokensRef.TheVariants as shape_ref
 use Rattle.lc_glob.specs.declared.segment_ref.SegmentRef.TheVariants as segment_ref
 use Rattle.lc_glob.specs.declared.segment_ref.SegmentsRef.TheVariants as segments_ref
 use Rattle.lc_glob.specs.declared.simple_pattern.SimpleKind.TheVariants as simple
-use Rattle.lc_glob.specs.declared.simple_pattern.OtherKind.TheVariants as other
+use Rattle.lc_glob.specs.declared.simple_pattern.RareKind.TheVariants as other
 use Rattle.lc_glob.specs.declared.pattern_view.KindRef.TheVariants as kind_ref
 use Rattle.lc_glob.specs.declared.pattern_ref.PatternRef.TheVariants as pattern_ref
 

@@ -13,8 +13,8 @@
 //! | `/` | the end of a segment; a last `/` limits the pattern to directories; a pattern with a `/` elsewhere must match the whole path |
 //! | `**` between separators | any run of segments, also an empty one; as the last segment, one segment or more |
 //!
-//! A pattern that can't be read is dead and matches nothing. Such a pattern ends in a single backslash, has a bracket without its closing
-//! `]` or with an unknown class, or has an empty segment.
+//! A pattern that can't be read is dead and matches nothing. Such a pattern ends in a backslash that escapes nothing, has a bracket without
+//! its closing `]` or with an unknown class, or has an empty segment.
 //!
 //! A line of an ignore file may have more than a pattern, such as negation, a comment or trailing spaces. These are no part of the pattern.
 //!

@@ -8,7 +8,7 @@ use crate::match_above::{has_nested_wildcards, keep, match_above};
 use crate::path_segment::{ByteTests, PathNames};
 use crate::segment_ref::{SegmentsRef, TokensRef};
 use crate::segments_left::SegmentsLeft;
-use crate::simple_pattern::{OtherKind, SimpleKind};
+use crate::simple_pattern::{RareKind, SimpleKind};
 use std::marker::Model;
 
 /// A view of a pattern, simple or not: whether it is for directories only, and what part of a path it is matched with.
@@ -40,16 +40,16 @@ impl<'p> Model for PatternView<'p> {
 }
 
 impl<'p> KindRef<'p> {
-    fn of_other(other: OtherKind, bytes: &'p [u8]) -> Self
+    fn of_other(other: RareKind, bytes: &'p [u8]) -> Self
         ensures { (is_dir_only : Bool) → pattern_view_model is_dir_only result ≡ simple_model is_dir_only (Other other) bytes.now }
     {
         let left = SegmentsLeft::of(bytes);
         match other {
-            OtherKind::Dead => KindRef::Dead,
-            OtherKind::LastSegment => KindRef::LastSegment(TokensRef::Bytes(bytes)),
-            OtherKind::Exact => KindRef::WholePath(SegmentsRef::Exact(left)),
-            OtherKind::Ends => KindRef::WholePath(SegmentsRef::Ends(left)),
-            OtherKind::WholePath => KindRef::WholePath(SegmentsRef::Bytes(left)),
+            RareKind::Dead => KindRef::Dead,
+            RareKind::LastSegment => KindRef::LastSegment(TokensRef::Bytes(bytes)),
+            RareKind::Exact => KindRef::WholePath(SegmentsRef::Exact(left)),
+            RareKind::Ends => KindRef::WholePath(SegmentsRef::Ends(left)),
+            RareKind::WholePath => KindRef::WholePath(SegmentsRef::Bytes(left)),
         }
     }
 }

@@ -8,7 +8,7 @@ ghost use Rattle.lc_glob.specs.Views.{form_model, live_model, token_pattern_mode
 use crate::bracket::push_bracket;
 use crate::pattern::{Pattern, PatternKind};
 use crate::scope::{Scope, trim};
-use crate::simple_pattern::{OtherKind, SimpleForm, SimpleKind, SimplePattern};
+use crate::simple_pattern::{RareKind, SimpleForm, SimpleKind, SimplePattern};
 use crate::token::Token;
 use smallvec::SmallVec;
 use std::alloc::{AllocError, Global};
@@ -170,7 +170,7 @@ fn dead_pattern(alloc: Global) -> Pattern
 {
     of_literals(
         false,
-        SimpleKind::Other(OtherKind::Dead),
+        SimpleKind::Other(RareKind::Dead),
         SmallVec::new(alloc),
     )
 }

@@ -27,12 +27,12 @@ pub(crate) enum SimpleKind {
     Suffix { is_whole: bool },
     /// The pattern is matched in another way. The other kinds have an enum of their own, since one test for the most usual kind costs less
     /// than a choice among all kinds.
-    Other(OtherKind),
+    Other(RareKind),
 }
 
 /// How a simple pattern that is not a suffix is matched.
 #[derive(Clone, Copy)]
-pub(crate) enum OtherKind {
+pub(crate) enum RareKind {
     /// The pattern matches nothing: it is dead, such as `a//b`, which has an empty segment.
     Dead,
     /// Tokens of any kind, such as those of `core.*`, are matched with the last segment of a path.
@@ -78,7 +78,7 @@ impl<'p> SimplePattern<'p> {
         ensures { form_model result.form result.bytes.now ≡ pattern_of bytes.now }
     {
         let Some((scope, segments)) = trim(bytes) else {
-            return Self::new(false, SimpleKind::Other(OtherKind::Dead), &[]);
+            return Self::new(false, SimpleKind::Other(RareKind::Dead), &[]);
         };
         if scope.is_anchored {
             return Self::new(scope.is_dir_only, path_kind(segments), segments);
@@ -120,15 +120,15 @@ impl<'p> SimplePattern<'p> {
 
     /// Returns whether the path passes at most one byte test. The result is false for most paths that the pattern does not match.
     #[inline]
-    fn agrees(self, other: OtherKind, path: &Candidate, tests: &mut ByteTests) -> bool
+    fn agrees(self, other: RareKind, path: &Candidate, tests: &mut ByteTests) -> bool
         ensures told { Matches (simple_model false (Other other) self.entry.bytes.now) path.now false → IsTrue result }
         ensures cost { tests.new.made + (match_cost (simple_model false (Other other) self.entry.bytes.now) path.now - 1)
             ≤ tests.old.made + match_cost (simple_model false (Other other) self.entry.bytes.now) path.now }
     {
         match other {
-            OtherKind::Dead => false,
-            OtherKind::LastSegment => agrees_at_end(self.bytes, path.last, path.last, tests),
-            OtherKind::Exact | OtherKind::Ends | OtherKind::WholePath => {
+            RareKind::Dead => false,
+            RareKind::LastSegment => agrees_at_end(self.bytes, path.last, path.last, tests),
+            RareKind::Exact | RareKind::Ends | RareKind::WholePath => {
                 agrees_at_end(self.bytes, path.whole(), path.last, tests)
             }
         }
@@ -136,20 +136,20 @@ impl<'p> SimplePattern<'p> {
 
     /// Returns whether a pattern of this kind matches the path. The caller tests whether the pattern is for directories only.
     #[inline(never)]
-    fn matched_by(self, other: OtherKind, path: &Candidate, tests: &mut ByteTests) -> bool
+    fn matched_by(self, other: RareKind, path: &Candidate, tests: &mut ByteTests) -> bool
         ensures meaning { IsTrue result ↔ Matches (simple_model false (Other other) self.entry.bytes.now) path.now false }
         ensures cost { tests.new.made
             ≤ tests.old.made + (match_cost (simple_model false (Other other) self.entry.bytes.now) path.now - 1) }
     {
         let bytes = self.bytes;
         match other {
-            OtherKind::Dead => false,
-            OtherKind::LastSegment => fits_elements(bytes, path.last, tests),
-            OtherKind::Exact => matches_exactly(bytes, path, tests),
-            OtherKind::Ends => {
+            RareKind::Dead => false,
+            RareKind::LastSegment => fits_elements(bytes, path.last, tests),
+            RareKind::Exact => matches_exactly(bytes, path, tests),
+            RareKind::Ends => {
                 matches_path(SegmentsRef::Ends(SegmentsLeft::of(bytes)), path, tests)
             }
-            OtherKind::WholePath => {
+            RareKind::WholePath => {
                 matches_path(SegmentsRef::Bytes(SegmentsLeft::of(bytes)), path, tests)
             }
         }
@@ -208,11 +208,11 @@ fn path_kind(bytes: &[u8]) -> SimpleKind
         ≡ live_model is_dir_only true (map bytes_segment (segments_of bytes.now)) }
 {
     if are_literals(bytes) {
-        SimpleKind::Other(OtherKind::Exact)
+        SimpleKind::Other(RareKind::Exact)
     } else if has_ends(bytes) {
-        SimpleKind::Other(OtherKind::Ends)
+        SimpleKind::Other(RareKind::Ends)
     } else {
-        SimpleKind::Other(OtherKind::WholePath)
+        SimpleKind::Other(RareKind::WholePath)
     }
 }
 
@@ -225,12 +225,12 @@ fn name_kind<'p>(bytes: &'p [u8]) -> (SimpleKind, &'p [u8])
         return (SimpleKind::Suffix { is_whole: true }, bytes);
     }
     let Some((first, rest)) = bytes.split_first() else {
-        return (SimpleKind::Other(OtherKind::LastSegment), bytes);
+        return (SimpleKind::Other(RareKind::LastSegment), bytes);
     };
     if *first == b'*' && are_literals(rest) {
         (SimpleKind::Suffix { is_whole: false }, rest)
     } else {
-        (SimpleKind::Other(OtherKind::LastSegment), bytes)
+        (SimpleKind::Other(RareKind::LastSegment), bytes)
     }
 }
 
