@@ -10,7 +10,7 @@ pub record PatternLineModel : Type 0 where
   pub pattern : PatternModel
   pub assigns : List AssignmentModel
 
--- what a line gives
+-- what a line gives that gives anything: a macro, or assignments for the paths that a pattern matches
 pub data AttrLineModel : Type 0 where
   macro_line : MacroModel → AttrLineModel
   pattern_line : PatternLineModel → AttrLineModel
@@ -43,7 +43,7 @@ abbrev pub by_macro : Bool → Option (List ℕ) → List ℕ → Option (List A
 by_macro top None word a = by_pattern word a
 by_macro top (Some name) word a = if top then as_macro name a else None
 
--- what a line gives whose pattern is not quoted, by the words of the line
+-- what a line gives by its words, the first of which is a macro's name after `[attr]`, or a pattern that is not quoted
 abbrev pub by_words : Bool → List (List ℕ) → Option AttrLineModel
 by_words top [] = None
 by_words top (w ∷ ws) = by_macro top (macro_word w) w (assigns ws)
