@@ -32,7 +32,8 @@ pub record SheetModel : Type 0 where
   pub skipped : Option SectionModel
   pub faults : Option SectionModel
 
--- the format of the sheet that is shown: a picture draws the sheet of a table, a tree is read as one, and paths are those of the sheet of csv
+-- the format of the sheet that an output shows: a picture and a tree have no sheet of their own, and are of the format of a table; paths
+-- are those of the sheet of csv
 abbrev pub sheet_format : Output → Format
 sheet_format (Text format) = format
 sheet_format Picture = Table

@@ -5,8 +5,8 @@ use Rattle.lc_sheet.specs.declared.value.Value.TheVariants as value
 use Rattle.lc_text.specs.Names.{NameModel, name_model}
 
 -- the value of a line in a column: no value; a sum over all values of the column; a column that does not apply; a word; whether an
--- attribute is set; bytes with what is printed before and after them; a path; a number; a part of a whole, as a share or as a bar; an old number and a new one, as a change or
--- as the change in per cent of the old number
+-- attribute is set; bytes with what is printed before and after them; a path; a number; a part of a whole, as a share or as a bar; an old
+-- number and a new one, as a change or as the change in per cent of the old number
 pub data ValueModel : Type 0 where
   missing : ValueModel
   summed : ValueModel

@@ -58,7 +58,7 @@ pub struct Columns {
     /// If rows are grouped by directory, the number of names (1 to 256) after which the path of a file's directory is cut. The path is
     /// relative to the counted directory, or begins with the name of one of several.
     pub dir: Option<u32>,
-    /// By how many of the attributes that were asked for rows are grouped. They are the first ones.
+    /// How many of the report's attributes rows are grouped by: the first ones of its list.
     pub attributes: u8,
     /// Whether rows are grouped by the extension of the files' names.
     pub ext: bool,
@@ -146,7 +146,8 @@ pub enum Order {
 /// The options of a table.
 ///
 /// ```
-/// let options = TableOptions { output: Output::Text(Format::Tsv), by: Columns::ALL, sort: None, top: Some(10), files: false, share: false };
+/// let output = Output::Text(Format::Tsv);
+/// let options = TableOptions { output, by: Columns::ALL, sort: None, top: Some(10), files: false, share: false };
 /// ```
 #[derive(Debug, Clone, Copy, PartialEq, Eq)]
 pub struct TableOptions {

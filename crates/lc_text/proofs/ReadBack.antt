@@ -3,7 +3,8 @@ use Rattle.std.proofs.Common.{◌≡◌, ℕ, ◌==◌, Bool, true, false, not, 
 use Rattle.std.proofs.{Common.{flat_map, option_map, subst}, lemmas.Bool.{eqb-true, and_parts, false_from_ne_true}}
 use Rattle.std.specs.List.{list_all}
 use Rattle.lc_glob.specs.Bytes.{backslash}
-use Rattle.lc_text.specs.{Quoting.{apostrophe, is_plain_word, is_shell_plain, quote_byte, in_quotes, quoted}, ShellWords.{outside, in_single, word_text}}
+use Rattle.lc_text.specs.Quoting.{apostrophe, is_plain_word, is_shell_plain, quote_byte, in_quotes, quoted}
+use Rattle.lc_text.specs.ShellWords.{outside, in_single, word_text}
 use Rattle.lc_text.specs.ShellWords.{QuotedLaw}
 
 -- inside the quotes

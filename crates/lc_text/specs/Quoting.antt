@@ -1,5 +1,6 @@
 -- How a text is written as one argument of a shell: POSIX.1-2017, Shell Command Language, 2.2 (Quoting).
-use Rattle.std.specs.{Prelude.{ℕ, ◌==◌, ◌||◌, ◌&&◌, Bool, false, not, if◌then◌else◌, List, [], ◌∷◌, ◌++◌, codes, flat_map}, Int.is_in_range, List.list_all}
+use Rattle.std.specs.{Prelude.{ℕ, ◌==◌, ◌||◌, ◌&&◌, Bool, false, not, if◌then◌else◌, List, [], ◌∷◌, ◌++◌, codes, flat_map}, Int.is_in_range}
+use Rattle.std.specs.List.{list_all}
 use Rattle.std.specs.List.{list_any}
 
 -- `'`, which quotes all that follows it up to the next one

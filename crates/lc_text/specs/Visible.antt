@@ -1,4 +1,4 @@
--- How bytes of a path are shown in a terminal: nothing in them moves its cursor or turns the direction of text.
+-- How bytes of a path are shown in a terminal: no character of them is a control, a separator of lines or a control of text's direction.
 use Rattle.std.specs.Prelude.{ℕ, ◌||◌, ◌&&◌, ◌==◌, Bool, nat_lt, nat_eq, cond, if◌then◌else◌, List, [], ◌∷◌, codes, flat_map, encode_utf8}
 use Rattle.std.specs.{Int.is_in_range, Str.{chars, is_utf8}}
 use Rattle.lc_glob.specs.Bytes.{backslash}

@@ -43,25 +43,18 @@ fn are_plain(bytes: &[u8]) -> bool
     bytes.iter().all(|b| is_plain(*b))
 }
 
-fn push_each_escaped(text: &mut Vec<u8>, bytes: &[u8]) -> Result<(), AllocError>
-    ensures { OnOk result (text.new.items ≡ text.old.items ++ escape_bytes bytes.now) }
-{
-    for b in bytes {
-        push_escaped_byte(text, *b)?;
-    }
-    Ok(())
-}
-
 /// Appends bytes, escaped for a program: a backslash becomes two backslashes, and a control byte becomes `\x` and two hexadecimal digits.
 pub fn push_escaped(text: &mut Vec<u8>, bytes: &[u8]) -> Result<(), AllocError>
     ensures { OnOk result (text.new.items ≡ text.old.items ++ escape_bytes bytes.now) }
 {
     // Most paths have nothing to escape, and are copied whole.
     if are_plain(bytes) {
-        text.extend_from_slice(bytes)
-    } else {
-        push_each_escaped(text, bytes)
+        return text.extend_from_slice(bytes);
     }
+    for b in bytes {
+        push_escaped_byte(text, *b)?;
+    }
+    Ok(())
 }
 
 /// Appends a path, escaped as [`escape`] does. The empty path, which is that of a tree's top directory, becomes a dot.

@@ -2,7 +2,7 @@
 
 ghost use Rattle.std.specs.Prelude.{◌≡◌, ◌++◌, OnOk, string_bytes};
 ghost use Rattle.lc_text.specs.Escape.{escape_bytes};
-ghost use Rattle.lc_text.specs.Names.{line_end, name_model, named};
+ghost use Rattle.lc_text.specs.Names.{name_model, named};
 ghost use Rattle.lc_text.specs.Visible.{visible_bytes};
 
 use crate::escaping::push_escaped;
@@ -32,15 +32,6 @@ pub struct Name<'a> {
     pub line: Option<u32>,
 }
 
-fn push_line(text: &mut Vec<u8>, line: Option<u32>) -> Result<(), AllocError>
-    ensures { OnOk result (text.new.items ≡ text.old.items ++ line_end line) }
-{
-    match line {
-        None => Ok(()),
-        Some(line) => write!(text, ":{line}").map_err(|_| AllocError),
-    }
-}
-
 /// Appends a name, with its bytes escaped as [`push_escaped`] does.
 pub fn push_name(text: &mut Vec<u8>, name: Name<'_>) -> Result<(), AllocError>
     ensures { OnOk result (text.new.items ≡ text.old.items ++ named escape_bytes (name_model name.entry)) }
@@ -48,15 +39,9 @@ pub fn push_name(text: &mut Vec<u8>, name: Name<'_>) -> Result<(), AllocError>
     text.extend_from_slice(name.front.as_bytes())?;
     push_escaped(text, name.bytes)?;
     text.extend_from_slice(name.end.as_bytes())?;
-    push_line(text, name.line)
-}
-
-fn push_visible_line(text: &mut String, line: Option<u32>) -> Result<(), AllocError>
-    ensures { OnOk result (string_bytes text.new ≡ string_bytes text.old ++ line_end line) }
-{
-    match line {
+    match name.line {
         None => Ok(()),
-        Some(line) => write!(text, ":{line}"),
+        Some(line) => write!(text, ":{line}").map_err(|_| AllocError),
     }
 }
 
@@ -67,5 +52,8 @@ pub fn push_visible_name(text: &mut String, name: Name<'_>) -> Result<(), AllocE
     text.push_str(name.front)?;
     push_visible(text, name.bytes)?;
     text.push_str(name.end)?;
-    push_visible_line(text, name.line)
+    match name.line {
+        None => Ok(()),
+        Some(line) => write!(text, ":{line}"),
+    }
 }

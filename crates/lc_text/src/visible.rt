@@ -54,15 +54,6 @@ fn push_visible_char(text: &mut String, c: char) -> Result<(), AllocError>
     }
 }
 
-fn push_each_char(text: &mut String, shown: &str) -> Result<(), AllocError>
-    ensures { OnOk result (string_bytes text.new ≡ string_bytes text.old ++ flat_map visible_char (chars shown.now)) }
-{
-    for c in shown.chars() {
-        push_visible_char(text, c)?;
-    }
-    Ok(())
-}
-
 fn push_visible_byte(text: &mut String, b: u8) -> Result<(), AllocError>
     ensures { OnOk result (string_bytes text.new ≡ string_bytes text.old ++ visible_byte b) }
 {
@@ -95,10 +86,12 @@ fn push_text(text: &mut String, shown: &str) -> Result<(), AllocError>
 {
     // Most paths have nothing but printable ASCII, and are copied whole.
     if are_clear(shown.as_bytes()) {
-        text.push_str(shown)
-    } else {
-        push_each_char(text, shown)
+        return text.push_str(shown);
     }
+    for c in shown.chars() {
+        push_visible_char(text, c)?;
+    }
+    Ok(())
 }
 
 /// Appends bytes, escaped for a terminal. Like [`push_escaped`](crate::push_escaped), but also writes `\x` and two digits for each byte of
