@@ -4,7 +4,8 @@ use Rattle.std.proofs.{Common.{Some, None, nat_eq, length, append_assoc, bytes_e
 use Rattle.std.proofs.Math.Dec.{eqb-suc-zero}
 use Rattle.std.specs.{Borrow.Bor, List.{filter, filter_map, cons_option, list_any}, Option.is_some, Ordering.is_lt, Prelude.option_map}
 use Rattle.lc_glob.specs.{Bytes.slash, Path.path_in}
-use Rattle.lc_level.specs.{Answers.{Item, entry_of, entries_of}, Narrowing.{after, rest_from, paths_in, put_among, each_once, leads_to, rests}}
+use Rattle.lc_level.specs.Answers.{Item, entry_of, entries_of}
+use Rattle.lc_level.specs.Narrowing.{after, rest_from, paths_in, put_among, each_once, leads_to, rests}
 use Rattle.lc_level.specs.{Narrowing.{takes_part, part_of, absent_from}, PathSteps.{is_led_to, unled}}
 use Rattle.lc_level.proofs.WellFormed.{same_bytes}
 use Rattle.lc_tree.specs.{ByteOrder.bytes_cmp, Listing.EntryModel}

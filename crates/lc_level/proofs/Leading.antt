@@ -5,7 +5,7 @@ use Rattle.std.proofs.lemmas.{Bool.{and_parts, eqb-true, or_parts}, Cmp.nat_list
 use Rattle.std.proofs.Math.Seq.{take-append_seam}
 use Rattle.std.specs.{List.{filter, list_any, before_first, position_or_len, AllByRecursion}, Option.is_some}
 use Rattle.lc_glob.specs.{Bytes.slash, Path.is_good_name, Pieces.is_byte}
-use Rattle.lc_level.specs.{Narrowing.{after, stands_below, leads_to, has_part, WantedModel}, PathSteps.{is_cut_among, is_led_to}}
+use Rattle.lc_level.specs.{Narrowing.{after, stands_below, leads_to, has_part, SelectionModel}, PathSteps.{is_cut_among, is_led_to}}
 use Rattle.lc_level.proofs.{AskedPaths.{after_is, after_front, filter_all, passes}, Searching.{is_named, named_tells}}
 use Rattle.lc_level.proofs.WellFormed.{same_bytes, bytes_same, clash, good_one, IsGoodName}
 use Rattle.lc_tree.specs.{Kinds.is_dir, Listing.{EntryModel, IsListing, have_good_names}}
@@ -126,7 +126,7 @@ leads_below e rests none dir =
     ∙ ap (λ k. list_any (λ rest. k && stands_below rest e.name) rests) dir
 
 -- of a directory that is asked for as a whole all entries take part
-pub whole_part : (w : WantedModel) (es : List EntryModel) → w.whole ≡ true → es ≡ filter (has_part w) es
+pub whole_part : (w : SelectionModel) (es : List EntryModel) → w.whole ≡ true → es ≡ filter (has_part w) es
 whole_part w es whole = sym (filter_all (has_part w) (λ e. ap (λ b. b || list_any (leads_to e) w.rests) whole) es)
 
 -- ---- the entry of a path's first name

@@ -3,8 +3,9 @@ use Rattle.std.proofs.Common.{◌≡◌, ◌<◌, ◌^◌, ℕ, suc, Bool, true,
 use Rattle.std.proofs.{Common.Vec, lemmas.List.Sums.{count_by-le-length, length-filter}}
 use Rattle.std.specs.{Global.Global, List.{filter, list_any, flat_map}}
 use Rattle.lc_level.specs.{Answers.{Item, Items, entry_of, entries_of}, Deep.{is_too_deep, has_too_deep}, Enters.IsEntered, Job.JobModel}
-use Rattle.lc_level.specs.{Classified.{kept_file, kept_directory, skipped_entry, ClassifiesAll}, Level.absent_faults, Narrowing.WantedModel}
-use Rattle.lc_level.specs.{Narrowing.{wanted_in, has_part, rests, takes_part, part_of}, Opens.{IsOpened, OpensLevel}, PathSteps.unled}
+use Rattle.lc_level.specs.{Classified.{kept_file, kept_directory, skipped_entry, ClassifiesAll}, Level.absent_faults}
+use Rattle.lc_level.specs.Narrowing.{SelectionModel}
+use Rattle.lc_level.specs.{Narrowing.{selection_in, has_part, rests, takes_part, part_of}, Opens.{IsOpened, OpensLevel}, PathSteps.unled}
 use Rattle.lc_level.specs.{Filters.FiltersModel, WellFormed.listed_in, declared.{entering.Entered.Entered, classify.Classified.Classified}}
 use Rattle.lc_level.specs.{declared.open_fault.OpenFault.{OpenFault, TheVariants.{Faulted, Memory, TooDeep}}, FaultLines.FaultLineModel}
 use Rattle.lc_tree.specs.{Listing.{EntryModel, IsListing}, Trees.{Listings, Contents}}
@@ -14,13 +15,13 @@ length_entries : (items : List Item) → length (entries_of items) ≡ length it
 length_entries [] = refl
 length_entries (i ∷ is) = ap suc (length_entries is)
 
-module _ (s : FiltersModel) (e : Entered) (w : WantedModel) (directory : List ℕ) (wanted : w ≡ wanted_in s.only directory)
+module _ (s : FiltersModel) (e : Entered) (w : SelectionModel) (directory : List ℕ) (wanted : w ≡ selection_in s.only directory)
     (at : directory ≡ e.job.path) where
   -- the entries that take part, by what is asked for of the directory that was entered
   pub part_by : (part : List EntryModel) → part ≡ filter (has_part w) e.entries.items
       → part ≡ filter (takes_part s.only e.job.path) e.entries.items
   part_by part is =
-      is ∙ ap (λ (v : WantedModel). filter (has_part v) e.entries.items) wanted
+      is ∙ ap (λ (v : SelectionModel). filter (has_part v) e.entries.items) wanted
       ∙ ap (λ d. filter (takes_part s.only d) e.entries.items) at
 
   -- and so the paths that are absent
@@ -28,7 +29,7 @@ module _ (s : FiltersModel) (e : Entered) (w : WantedModel) (directory : List �
       → absent ≡ absent_faults (unled entries w.rests) → absent ≡ absent_faults (unled e.entries.items (rests s.only e.job.path))
   absent_by absent entries are is =
       is ∙ ap (λ es. absent_faults (unled es w.rests)) are
-      ∙ ap (λ (v : WantedModel). absent_faults (unled e.entries.items v.rests)) wanted
+      ∙ ap (λ (v : SelectionModel). absent_faults (unled e.entries.items v.rests)) wanted
       ∙ ap (λ d. absent_faults (unled e.entries.items (rests s.only d))) at
 
 module _ (lists : List ℕ → Listings) (gives : List ℕ → Contents) (left_out : Bool) (s : FiltersModel) (j : JobModel) where

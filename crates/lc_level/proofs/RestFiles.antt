@@ -1,7 +1,7 @@
 -- Counting up to a large file: what is counted, and what is left.
-use Rattle.std.proofs.Common.{◌≡◌, ℕ, List, [], ◌∷◌, ◌++◌, refl, sym, ◌∙◌, ap, subst, Result, Ok, Err, OnOk, Vec, append-nil}
+use Rattle.std.proofs.Common.{◌≡◌, ℕ, List, [], ◌∷◌, ◌++◌, refl, sym, ◌∙◌, ap, subst, Ok, Vec, append-nil}
 use Rattle.std.proofs.{Common.append_assoc, lemmas.List.map-append}
-use Rattle.std.specs.{Global.Global, declared.alloc.AllocError.AllocError}
+use Rattle.std.specs.Global.{Global}
 use Rattle.lc_level.specs.{CountedNames.{AddsCounted, IsCounted, file_fates}, CountedParts.CountsSome, Job.JobModel, Classified.bytes_of}
 use Rattle.lc_level.specs.{Level.{counted_of, failed_of, counted_in, failed_in}, declared.counting.CountedFiles.CountedFiles}
 use Rattle.lc_level.specs.{FaultLines.FaultLineModel, Filters.FiltersModel}
@@ -13,16 +13,14 @@ Names = List (Vec ℕ Global)
 
 module _ (gives : List ℕ → Contents) (filters : FiltersModel) (j : JobModel) where
   -- a file more is counted, where none is left
-  pub counted_last : (n : Vec ℕ Global) (old new : CountedFiles) (rest : Names) (result : Result (Unit {0}) AllocError) → rest ≡ []
-      → AddsCounted gives filters j n.items old new result
-      → OnOk result ((names : Names) → (absent : List FaultLineModel) → CountsSome gives filters j names absent rest old
-      → CountsSome gives filters j (names ++ n ∷ []) absent rest new)
-  counted_last n old new rest (Err e) none added = tt
-  counted_last n old new rest (Ok u) none added = λ names absent s. record {
+  pub counted_last : (n : Vec ℕ Global) (old new : CountedFiles) (rest : Names) → rest ≡ []
+      → AddsCounted gives filters j n.items old new (Ok tt) → (names : Names) (absent : List FaultLineModel)
+      → CountsSome gives filters j names absent rest old → CountsSome gives filters j (names ++ n ∷ []) absent rest new
+  counted_last n old new rest none added names absent s = record {
     done = s.done ++ n ∷ [];
     all = ap (λ l. (s.done ++ n ∷ []) ++ l) none ∙ append-nil (s.done ++ n ∷ [])
         ∙ ap (λ l. l ++ n ∷ []) (sym (append-nil s.done) ∙ ap (λ l. s.done ++ l) (sym none) ∙ s.all);
-    counted = counted_next gives filters j s.done n absent old new (Ok u) u refl s.counted added;
+    counted = counted_next gives filters j s.done n absent old new (Ok tt) tt refl s.counted added;
   }
 
   -- what is counted of consecutive names is counted of all

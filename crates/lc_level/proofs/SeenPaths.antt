@@ -1,7 +1,9 @@
 -- Sorted paths seen from a directory: those that come before its own are skipped, and what follows these is none of them.
-use Rattle.std.proofs.Common.{◌≡◌, ℕ, zero, suc, Bool, true, false, List, [], ◌∷◌, length, map, drop, refl, sym, ◌∙◌, ap, subst, Option, Some, None, option_map}
+use Rattle.std.proofs.Common.{◌≡◌, ℕ, zero, suc, Bool, true, false, List, [], ◌∷◌, length, map, drop, refl, sym, ◌∙◌, ap, subst, Option}
+use Rattle.std.proofs.Common.{Some, None, option_map}
 use Rattle.std.proofs.{Common.{Bor, arith}, lemmas.Map.Keys.sorted_head}
-use Rattle.std.specs.{List.{filter_map, cons_option, AllByRecursion, Sorted.{IsPartitionPoint, IsStrictlySortedBy}}, Option.{is_none, is_some}}
+use Rattle.std.specs.List.{filter_map, cons_option, AllByRecursion, Sorted.{IsPartitionPoint, IsStrictlySortedBy}}
+use Rattle.std.specs.Option.{is_none, is_some}
 use Rattle.lc_level.specs.{Narrowing.rest_from, PathSteps.comes_before}
 use Rattle.lc_level.proofs.PathOrder.{early_rest, none_seen}
 use Rattle.lc_tree.specs.ByteOrder.{bytes_cmp, AreInOrder}

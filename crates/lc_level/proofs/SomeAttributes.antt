@@ -1,8 +1,8 @@
 -- Some attributes of a list that grows.
-use Rattle.std.proofs.Common.{◌≡◌, ◌∙◌, ◌<◌, ◌+◌, ℕ, suc, List, [], ◌∷◌, ◌++◌, Vec, ap, arith, get_or, inl, inr, length, map, refl, sym}
-use Rattle.std.proofs.{Common.take, Math.Seq.take-suc, lemmas.List.map-append}
+use Rattle.std.proofs.Common.{◌≡◌, ◌∙◌, ◌<◌, ◌+◌, ◌⊎◌, ℕ, suc, List, [], ◌∷◌, ◌++◌, Vec, ap, arith, get_or, inl, inr, length, map, refl}
+use Rattle.std.proofs.{Common.{sym, take}, Math.Seq.take-suc, lemmas.List.map-append}
 use Rattle.std.specs.Global.{Global}
-use Rattle.lc_level.specs.{NamedAttributes.{AddsAtMost, AreSomeAttributes, AreSomeOf}, declared.named_attributes.NotedWord.NotedWord}
+use Rattle.lc_level.specs.{NamedAttributes.{AreSomeAttributes, AreSomeOf}, declared.named_attributes.NotedWord.NotedWord}
 
 -- a name at the end that is not among them
 some_left : (ns os : List (List ℕ)) (o : List ℕ) → AreSomeOf ns os → AreSomeOf ns (os ++ o ∷ [])
@@ -18,6 +18,11 @@ some_more [] (x ∷ os) o some = inr (some_more [] os o tt)
 some_more (n ∷ ns) [] o some = absurd some
 some_more (n ∷ ns) (x ∷ os) o (inl (same, some)) = inl (same, some_more ns os o some)
 some_more (n ∷ ns) (x ∷ os) o (inr some) = inr (some_more (n ∷ ns) os o some)
+
+-- the list is as before, or has this attribute added
+abbrev AddsAtMost : List ℕ → List (Vec ℕ Global) → List (Vec ℕ Global) → Type 0
+AddsAtMost attribute before after =
+    (after ≡ before) ⊎ ((told : Vec ℕ Global) × (told.items ≡ attribute) × (after ≡ before ++ told ∷ []))
 
 -- one attribute more, which may have been added
 one_more : (attributes : List (List ℕ)) (attribute : List ℕ) (before after : List (Vec ℕ Global))

@@ -2,7 +2,8 @@
 use Rattle.std.specs.{Prelude.{◌≡◌, ℕ, List, [], ◌∷◌, ◌++◌, Result, Ok, Err}, declared.alloc.AllocError.AllocError}
 use Rattle.lc_census.specs.declared.line_count.Count.{Count}
 use Rattle.lc_glob.specs.Path.{path_in}
-use Rattle.lc_level.specs.{Filters.FiltersModel, Job.JobModel, Level.{Fate, file_fate, counted_of, failed_of, counted_in, failed_in}, FileReads.MayCount}
+use Rattle.lc_level.specs.{Filters.FiltersModel, Job.JobModel, Level.{Fate, file_fate, counted_of, failed_of, counted_in, failed_in}}
+use Rattle.lc_level.specs.FileReads.{MayCount}
 use Rattle.lc_level.specs.{declared.{counting.CountedFiles.CountedFiles, fault_word.FaultWord.FaultWord}, FaultLines.FaultLineModel}
 use Rattle.lc_tree.specs.Trees.{Contents}
 

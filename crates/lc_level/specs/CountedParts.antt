@@ -28,8 +28,8 @@ pub record Joins (parts : List (Result CountedFiles AllocError)) (absent : List 
   pub faults : found.faults.items ≡ absent ++ flat_map faults_of parts
 
 -- the files of these names are counted, except for the last ones, whose names are `rest`
-pub record CountsSome (gives : List ℕ → Contents) (f : FiltersModel) (j : JobModel) (names : List (Vec ℕ Global)) (absent : List FaultLineModel)
-    (rest : List (Vec ℕ Global)) (found : CountedFiles) : Type 0 where
+pub record CountsSome (gives : List ℕ → Contents) (f : FiltersModel) (j : JobModel) (names : List (Vec ℕ Global))
+    (absent : List FaultLineModel) (rest : List (Vec ℕ Global)) (found : CountedFiles) : Type 0 where
   pub done : List (Vec ℕ Global)
   pub all : done ++ rest ≡ names
   pub counted : IsCounted gives f j (bytes_of done) absent found

@@ -59,7 +59,7 @@ module _ (alloc : Global) where
   abbrev pub with_bad_name : Child
   with_bad_name = (vec alloc (codes "d") refl, roll-Node (Node-F.Dir (vec alloc (bad_name ∷ []) refl)))
 
-  -- all of them, in no order, in a directory
+  -- the entries of the small directory, in no order; the bad name is that of an entry of its directory `d`
   abbrev pub entries : List Child
   entries =
       file ∷ with_bad_name ∷ closed ∷ rule_file ∷ failing_file ∷ ignored_file ∷ link ∷ attribute_file ∷ unexported_file ∷ git_file ∷ []

@@ -8,8 +8,8 @@ use Rattle.lc_rules.specs.{IgnoreRules.{RuleModel, rules_of}, Verdicts.{at_depth
 
 -- the text of an ignore file that all others override; an attribute file that all others override; the patterns that override all others,
 -- one a line; the patterns for files, one a line: if there are some, only files that they include stay; whether no ignore file of the tree
--- is read; words `ATTR` or `ATTR=VALUE`: what has the state that one of them requires is skipped; paths: if they are given, only what is at or
--- below one of them stays; and the attributes whose states each counted file has
+-- is read; words `ATTR` or `ATTR=VALUE`: what has the state that one of them requires is skipped; paths: if they are given, only what is at
+-- or below one of them stays; and the attributes whose states each counted file has
 pub record FiltersModel : Type 0 where
   pub exclude_from : Option (List ℕ)
   pub attributes_from : Option AttrFileModel

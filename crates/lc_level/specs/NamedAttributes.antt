@@ -1,5 +1,5 @@
 -- Which attributes of a command line are noted, and which of them are returned.
-use Rattle.std.specs.{Prelude.{◌≡◌, ◌⊎◌, ℕ, List, [], ◌∷◌, ◌++◌, Vec, map}, Borrow.Bor, Global.Global}
+use Rattle.std.specs.{Prelude.{◌≡◌, ◌⊎◌, ℕ, List, [], ◌∷◌, Vec, map}, Borrow.Bor, Global.Global}
 use Rattle.lc_level.specs.{Filters.attribute_of, declared.named_attributes.{NamedAttributes.NamedAttributes, NotedWord.NotedWord}}
 
 -- the attributes of words such as `ATTR` and `ATTR=VALUE`
@@ -19,8 +19,3 @@ AreSomeOf (t ∷ ts) (o ∷ os) = ((t ≡ o) × AreSomeOf ts os) ⊎ AreSomeOf (
 -- some of these attributes, in their order
 abbrev pub AreSomeAttributes : List (List ℕ) → List (Vec ℕ Global) → Type 0
 AreSomeAttributes attributes told = AreSomeOf (map (λ (a : Vec ℕ Global). a.items) told) attributes
-
--- the list is as before, or has this attribute added
-abbrev pub AddsAtMost : List ℕ → List (Vec ℕ Global) → List (Vec ℕ Global) → Type 0
-AddsAtMost attribute before after =
-    (after ≡ before) ⊎ ((told : Vec ℕ Global) × (told.items ≡ attribute) × (after ≡ before ++ told ∷ []))

@@ -35,12 +35,12 @@ abbrev pub leads_to : EntryModel → List ℕ → Bool
 leads_to e rest = bytes_eq e.name rest || (is_dir e.kind && stands_below rest e.name)
 
 -- what the paths of `--only` select of a directory: whether all of it, and the paths below it, relative to the directory
-pub record WantedModel : Type 0 where
+pub record SelectionModel : Type 0 where
   pub whole : Bool
   pub rests : List (List ℕ)
 
 -- whether an entry is selected, by what is selected of its directory
-abbrev pub has_part : WantedModel → EntryModel → Bool
+abbrev pub has_part : SelectionModel → EntryModel → Bool
 has_part w e = w.whole || list_any (leads_to e) w.rests
 
 -- the paths that are given
@@ -57,8 +57,8 @@ module _ (only : Option (List (List ℕ))) (directory : List ℕ) where
   abbrev pub rests : List (List ℕ)
   rests = filter_map (rest_from directory) (each_once (paths_in only))
 
-  abbrev pub wanted_in : WantedModel
-  wanted_in = record { whole = is_whole; rests = rests }
+  abbrev pub selection_in : SelectionModel
+  selection_in = record { whole = is_whole; rests = rests }
 
   -- whether an entry is selected; `part_of` has the selected items
   abbrev pub takes_part : EntryModel → Bool

@@ -48,10 +48,10 @@ impl AttributeState {
         ensures { result ≡ true → owned_state self.now ≡ state_model state.entry }
     {
         match (self, state) {
-            (AttributeState::Set, State::Set) => true,
-            (AttributeState::Unset, State::Unset) => true,
+            (AttributeState::Set, State::Set)
+            | (AttributeState::Unset, State::Unset)
+            | (AttributeState::Unspecified, State::Unspecified) => true,
             (AttributeState::Value(value), State::Value(other)) => value.as_slice() == other,
-            (AttributeState::Unspecified, State::Unspecified) => true,
             _ => false,
         }
     }
@@ -99,15 +99,6 @@ impl FileAttributes {
             asked: states,
         })
     }
-
-    fn are(&self, text: TextState, asked: &[State<'_>]) -> bool
-        ensures { result ≡ true → self.now ≡ attributes_with text (map state_model asked.now) }
-    {
-        if self.text != text {
-            return false;
-        }
-        are_same(&self.asked, asked)
-    }
 }
 
 /// Returns whether these are the same states. The result may be false only if they are not.
@@ -154,7 +145,10 @@ impl SharedAttributes {
             return Ok(Arc::try_clone(known)?);
         }
         let made = Arc::new(alloc, FileAttributes::of(alloc, text, asked)?)?;
-        self.keep(Arc::try_clone(&made)?)?;
+        if self.kept.len() >= MOST_KEPT {
+            self.kept.clear();
+        }
+        self.kept.push(Arc::try_clone(&made)?)?;
         Ok(made)
     }
 
@@ -162,18 +156,10 @@ impl SharedAttributes {
         ensures { IfSome result (λ found. arc_value found.now ≡ attributes_with text (map state_model asked.now)) }
     {
         for known in &self.kept {
-            if known.are(text, asked) {
+            if known.text == text && are_same(&known.asked, asked) {
                 return Some(known);
             }
         }
         None
-    }
-
-    fn keep(&mut self, attributes: Arc<FileAttributes, Global>) -> Result<(), AllocError> {
-        if self.kept.len() >= MOST_KEPT {
-            self.kept.clear();
-        }
-        self.kept.push(attributes)?;
-        Ok(())
     }
 }

@@ -1,15 +1,13 @@
 //! The filters of a walk: what decides, besides the tree's own rule files, which entries are skipped and which attributes files have.
 ghost use Rattle.std.specs.Prelude.{◌≡◌, IfOk, option_map, map};
-ghost use Rattle.lc_level.specs.Filters.{attribute_of, include_rules, is_state, no_filters, patterns_for, value_of};
+ghost use Rattle.lc_level.specs.Filters.{include_rules, is_state, no_filters, patterns_for};
 ghost use Rattle.lc_level.specs.Level.{attribute_reason, by_attribute, is_met};
-ghost use Rattle.lc_level.specs.Narrowing.{wanted_in};
 ghost use Rattle.lc_level.specs.RuleReads.{shared};
 ghost use Rattle.lc_level.specs.TopJob.{top_job};
 ghost use Rattle.lc_rules.specs.IgnoreRules.{rules_of};
 ghost use Rattle.lc_rules.specs.Models.{state_model};
 
 use crate::job::Job;
-use crate::narrowing::Wanted;
 use crate::narrowing::included::patterns_for;
 use crate::narrowing::only_paths::OnlyPaths;
 use crate::rule_files::rule_text::RuleText;
@@ -76,14 +74,6 @@ impl<'p> Model for Filters<'p> {
     } };
 }
 
-/// Splits a word, `ATTR` or `ATTR=VALUE`, at its first `=` into the attribute and the value.
-fn split_word(word: &[u8]) -> (&[u8], Option<&[u8]>)
-    ensures attribute { result.0.now ≡ attribute_of word.now }
-    ensures value { option_map (λ v. v.now) result.1 ≡ value_of word.now }
-{
-    cut_at_first(b'=', word)
-}
-
 /// Returns whether an attribute's state is the required one: this value, or Set if no value is required.
 fn is_state(wanted: Option<&[u8]>, state: State<'_>) -> bool
     ensures { result ≡ is_state (option_map (λ v. v.now) wanted.entry) (state_model state.entry) }
@@ -110,7 +100,7 @@ fn is_met(
 ) -> Result<bool, AllocError>
     ensures { IfOk result (λ met. met ≡ is_met job.now path.now is_dir word.now) }
 {
-    let (attribute, wanted) = split_word(word);
+    let (attribute, wanted) = cut_at_first(b'=', word);
     let state = job.attributes().state(alloc, path, is_dir, attribute)?;
     Ok(is_state(wanted, state))
 }
@@ -159,18 +149,6 @@ impl<'p> Filters<'p> {
             None => Ok(AttrChain::top_with(None)),
             Some(file) => Ok(AttrChain::top_with(Some(Arc::try_clone(file)?))),
         }
-    }
-
-    /// Returns what the paths of `--only` select of a directory: all of it, or some paths below it.
-    pub(crate) fn wanted_in(
-        &self,
-        alloc: Global,
-        directory: &[u8],
-    ) -> Result<Wanted<'p>, AllocError>
-        ensures { IfOk result (λ wanted. wanted ≡ wanted_in self.now.only directory.now) }
-    {
-        let wanted = self.only.wanted_in(alloc, directory)?;
-        Ok(wanted)
     }
 
     /// Returns the patterns for the files of a directory: a file that matches none of them is skipped. Returns `None` if no file has to

@@ -42,10 +42,10 @@ pub fn trees_of_memory_give_one()
     files_of_memory_are_read_once();
 }
 
-/// The law about a tree in memory, and the answers that the definition `tree_of_node` derives from the tree's `Node`. The answers are each
-/// directory's listing and the results of reading its files. First, the tree may give these answers. Second, the names in each listing are
-/// good, distinct and in order. Third, if each file has under 2^47 bytes, each directory has only one level, which these answers determine.
-/// A level is what a directory contributes to a walk.
+/// The law about the answers that the definition `tree_of_node` derives from the `Node` of a tree in memory: the listing of each directory,
+/// and the results of reading its files. First, the tree may give these answers. Second, the names in each listing are good, distinct and
+/// in order. Third, if each file has under 2^47 bytes, whatever answers the tree gives, they make the same level as these. A level is what
+/// a directory contributes to a walk.
 pub fn a_node_is_one_tree()
     ensures answers { NodeAnswersLaw }
     ensures levels { NodeLevelsLaw }

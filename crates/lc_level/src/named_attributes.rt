@@ -1,7 +1,7 @@
 //! Which attributes are named in the attribute files of a tree.
 
-ghost use Rattle.std.specs.Prelude.{◌≡◌, IfOk, OnOk};
-ghost use Rattle.lc_level.specs.NamedAttributes.{AddsAtMost, AreSomeAttributes, attributes_of, noted};
+ghost use Rattle.std.specs.Prelude.{◌≡◌, IfOk};
+ghost use Rattle.lc_level.specs.NamedAttributes.{AreSomeAttributes, attributes_of, noted};
 
 use lc_glob::cut_at_first;
 use memchr::memmem;
@@ -32,18 +32,6 @@ struct NotedWord {
     is_named: AtomicBool,
 }
 
-impl NotedWord {
-    /// Adds the attribute to `unnamed` if none of the attribute files that were read contains its name.
-    fn push_unnamed(&self, alloc: Global, unnamed: &mut Vec<Vec<u8>>) -> Result<(), AllocError>
-        ensures { OnOk result (AddsAtMost self.now.attribute.items unnamed.old.items unnamed.new.items) }
-    {
-        if !self.is_named.load(Ordering::SeqCst) {
-            unnamed.push(self.attribute.to_vec(alloc)?)?;
-        }
-        Ok(())
-    }
-}
-
 impl NamedAttributes {
     /// Makes the list of the attributes that `words` name. Each word is `ATTR` or `ATTR=VALUE`. The new list has no notes yet about the
     /// contents of attribute files.
@@ -67,7 +55,10 @@ impl NamedAttributes {
     {
         let mut unnamed = Vec::new(alloc);
         for word in &self.words {
-            word.push_unnamed(alloc, &mut unnamed)?;
+            if word.is_named.load(Ordering::SeqCst) {
+                continue;
+            }
+            unnamed.push(word.attribute.to_vec(alloc)?)?;
         }
         Ok(unnamed)
     }

@@ -24,19 +24,19 @@ use std::marker::Model;
 
 /// What the paths of `--only` select of a directory.
 #[derive(Drop)]
-pub(crate) struct Wanted<'o> {
+pub(crate) struct Selection<'o> {
     // Whether all of the directory is.
     pub(crate) whole: bool,
     // The paths below it, seen from it: each once, in the order of their bytes.
     pub(crate) rests: Vec<&'o [u8]>,
 }
 
-impl<'o> Model for Wanted<'o> {
+impl<'o> Model for Selection<'o> {
     ghost use Rattle.std.specs.Prelude.{map};
-    ghost use Rattle.lc_level.specs.Narrowing.{WantedModel};
+    ghost use Rattle.lc_level.specs.Narrowing.{SelectionModel};
     ghost use Rattle.lc_tree.specs.ByteOrder.{AreInOrder};
 
-    ghost Value = { WantedModel };
+    ghost Value = { SelectionModel };
 
     ghost view = { λ w. record { whole = w.whole; rests = map (λ rest. rest.now) w.rests.items } };
 
@@ -107,7 +107,7 @@ fn add_unled(
     }
 }
 
-impl<'o> Wanted<'o> {
+impl<'o> Selection<'o> {
     /// Returns the entries of the directory that the paths of `--only` select. If all of it is selected, nothing is allocated.
     pub(crate) fn part_of(
         &self,

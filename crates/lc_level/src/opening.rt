@@ -46,7 +46,8 @@ impl<T: Tree> LevelReader<'_, T> {
             self.now.filters.now job.now result }
     {
         let Entered { job, entries, .. } = self.enter_listed(job, listing, scratch)?;
-        let Ok(wanted) = self.filters.wanted_in(self.alloc, job.path()) else {
+        let filters = self.filters;
+        let Ok(wanted) = filters.only.selection_in(self.alloc, job.path()) else {
             return Err(OpenFault::Memory);
         };
         let Ok(absent) = wanted.absent(self.alloc, &entries) else {

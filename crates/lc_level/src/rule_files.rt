@@ -10,7 +10,6 @@ pub(crate) mod git_info;
 pub(crate) mod rule_pair;
 pub(crate) mod rule_text;
 
-use crate::FaultWord;
 use crate::content_fault::ContentFault;
 use crate::entry_looks::has_file;
 use crate::level_reader::LevelReader;
@@ -75,18 +74,19 @@ impl<T: Tree> LevelReader<'_, T> {
         Ok(true)
     }
 
-    /// Reads the ignore file with this name in the directory of `scratch.path`, if the listing has the file.
+    /// Reads the ignore file with this name in the directory of `scratch.path`, if the listing has the file and `no_ignore` is not set.
     pub(crate) fn ignore_file(
         &self,
+        no_ignore: bool,
         listing: &Listing,
         name: &[u8],
         scratch: &mut Scratch,
     ) -> Result<IgnoreRead, ContentFault>
         ensures same { scratch.new.path.directory ≡ scratch.old.path.directory }
         ensures read { IsIgnoreRead self.now.options.texts (T.gives self.now.tree.now (path_in scratch.old.path.directory name.now))
-            (has_file name.now listing.now) result }
+            (not no_ignore && has_file name.now listing.now) result }
     {
-        if !self.read_named(listing, name, scratch)? {
+        if no_ignore || !self.read_named(listing, name, scratch)? {
             return Ok(IgnoreRead::none());
         }
         let file = match IgnoreFile::read(self.alloc, &scratch.rules) {
@@ -104,24 +104,6 @@ impl<T: Tree> LevelReader<'_, T> {
             }),
             Err(_) => Err(ContentFault::Memory),
         }
-    }
-
-    /// Like `ignore_file`, but reads nothing if `no_ignore` is set.
-    pub(crate) fn ignore_file_if(
-        &self,
-        no_ignore: bool,
-        listing: &Listing,
-        name: &[u8],
-        scratch: &mut Scratch,
-    ) -> Result<IgnoreRead, ContentFault>
-        ensures same { scratch.new.path.directory ≡ scratch.old.path.directory }
-        ensures read { IsIgnoreRead self.now.options.texts (T.gives self.now.tree.now (path_in scratch.old.path.directory name.now))
-            (not no_ignore && has_file name.now listing.now) result }
-    {
-        if no_ignore {
-            return Ok(IgnoreRead::none());
-        }
-        self.ignore_file(listing, name, scratch)
     }
 
     /// Reads the attribute file with this name in the directory of `scratch.path`, if the listing has the file. The file may define macros

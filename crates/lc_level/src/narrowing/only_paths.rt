@@ -2,11 +2,11 @@
 ghost use Rattle.std.specs.Prelude.{◌≡◌, ◌≤◌, IfOk, None, Some, false, true, length, map};
 ghost use Rattle.std.specs.List.{filter_map, AllByRecursion};
 ghost use Rattle.std.specs.List.Sorted.{IsPartitionPoint};
-ghost use Rattle.lc_level.specs.Narrowing.{each_once, is_whole, rest_from, rests, wanted_in};
+ghost use Rattle.lc_level.specs.Narrowing.{each_once, is_whole, rest_from, rests, selection_in};
 ghost use Rattle.lc_level.specs.PathSteps.{comes_before};
 ghost use Rattle.lc_tree.specs.ByteOrder.{AreInOrder};
 
-use crate::narrowing::Wanted;
+use crate::narrowing::Selection;
 use crate::narrowing::below::{is_before_below, rest_from};
 use crate::narrowing::sorted_paths::is_within;
 use std::alloc::{AllocError, Global};
@@ -36,16 +36,6 @@ impl<'o> Model for OnlyPaths<'o> {
 
     ghost invariant = { λ p. map (λ path. path.now) p.sorted.items
         ≡ each_once (paths_in (option_map (λ paths. map (λ path. path.now) paths.now) p.asked)) };
-}
-
-/// Returns the paths in the order of their bytes, each once.
-fn sorted_once<'o>(alloc: Global, asked: &[&'o [u8]]) -> Result<Vec<&'o [u8]>, AllocError>
-    ensures { IfOk result (λ paths. map (λ path. path.now) paths.items ≡ each_once (map (λ path. path.now) asked.now)) }
-{
-    let mut paths = asked.to_vec(alloc)?;
-    paths.sort_unstable();
-    paths.dedup();
-    Ok(paths)
 }
 
 /// Returns whether a path comes before all paths below a directory, in the order of their bytes.
@@ -106,7 +96,9 @@ impl<'o> OnlyPaths<'o> {
     pub fn new(alloc: Global, asked: &'o [&'o [u8]]) -> Result<OnlyPaths<'o>, AllocError>
         ensures { IfOk result (λ only. only ≡ Some (map (λ path. path.now) asked.entry.now)) }
     {
-        let sorted = sorted_once(alloc, asked)?;
+        let mut sorted = asked.to_vec(alloc)?;
+        sorted.sort_unstable();
+        sorted.dedup();
         Ok(OnlyPaths {
             asked: Some(asked),
             sorted,
@@ -132,15 +124,15 @@ impl<'o> OnlyPaths<'o> {
     }
 
     /// Returns what the paths select of a directory.
-    pub(crate) fn wanted_in(
+    pub(crate) fn selection_in(
         &self,
         alloc: Global,
         directory: &[u8],
-    ) -> Result<Wanted<'o>, AllocError>
-        ensures { IfOk result (λ wanted. wanted ≡ wanted_in self.now directory.now) }
+    ) -> Result<Selection<'o>, AllocError>
+        ensures { IfOk result (λ wanted. wanted ≡ selection_in self.now directory.now) }
     {
         let rests = self.rests(alloc, directory)?;
-        Ok(Wanted {
+        Ok(Selection {
             whole: self.is_whole(directory),
             rests,
         })

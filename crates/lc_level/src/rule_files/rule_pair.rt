@@ -69,7 +69,7 @@ impl<T: Tree> LevelReader<'_, T> {
         ensures read { ReadsBoth (T.gives self.now.tree.now)
             (pair_asked names.entry self.now.options.texts scratch.old.path.directory listing.now) result }
     {
-        let rules = match self.ignore_file_if(names.no_ignore, listing, names.rules.name, scratch) {
+        let rules = match self.ignore_file(names.no_ignore, listing, names.rules.name, scratch) {
             Ok(read) => read,
             Err(content_fault) => return Err(content_fault.at(names.rules.site)),
         };

@@ -1,10 +1,8 @@
 //! Counting the files that follow a large file of the same directory, with several threads side by side.
-ghost use Rattle.std.specs.Prelude.{◌≡◌, ◌++◌, ◌∷◌, ◌-◌, ◌≤◌, [], List, ℕ, IfOk, OnOk, Vec};
-ghost use Rattle.std.specs.Global.{Global};
+ghost use Rattle.std.specs.Prelude.{◌≡◌, ◌-◌, ◌≤◌, IfOk, Vec};
 ghost use Rattle.lc_level.specs.CountedNames.{IsCounted};
 ghost use Rattle.lc_level.specs.CountedParts.{CountsSome};
 ghost use Rattle.lc_level.specs.Classified.{bytes_of};
-ghost use Rattle.lc_level.specs.FaultLines.{FaultLineModel};
 
 use crate::FaultLine;
 use crate::counting::CountedFiles;
@@ -39,29 +37,6 @@ impl CountedFiles {
 }
 
 impl<T: Tree> LevelReader<'_, T> {
-    /// Counts the file with this name, or adds the name to `rest`. The name is added if `rest` has names already, or if a large file was
-    /// counted last.
-    fn count_unless_after_large(
-        &self,
-        job: &Job,
-        name: Vec<u8>,
-        scratch: &mut Scratch,
-        found: &mut CountedFiles,
-        rest: &mut Vec<Vec<u8>>,
-    ) -> Result<(), AllocError>
-        requires { scratch.old.path.directory ≡ job.now.path }
-        ensures same { scratch.new.path.directory ≡ scratch.old.path.directory }
-        ensures more { OnOk result ((names : List (Vec ℕ Global)) → (absent : List FaultLineModel) →
-            CountsSome (T.gives self.now.tree.now) self.now.filters.now job.now names absent rest.old.items found.old →
-            CountsSome (T.gives self.now.tree.now) self.now.filters.now job.now (names ++ name ∷ []) absent rest.new.items found.new) }
-    {
-        if rest.is_empty() && !found.ends_large() {
-            return self.count_named(job, name, scratch, found);
-        }
-        rest.push(name)?;
-        Ok(())
-    }
-
     /// Counts the files `names`, in order, up to the first that is large, and returns the rest of the names.
     fn count_until_large(
         &self,
@@ -81,28 +56,13 @@ impl<T: Tree> LevelReader<'_, T> {
         };
         let mut rest = Vec::new(self.alloc);
         for name in names {
-            self.count_unless_after_large(job, name, scratch, &mut found, &mut rest)?;
+            if rest.is_empty() && !found.ends_large() {
+                self.count_named(job, name, scratch, &mut found)?;
+                continue;
+            }
+            rest.push(name)?;
         }
         Ok((found, rest))
-    }
-
-    /// Counts the files `names`, in parts side by side if there are helpers.
-    fn count_by_helpers<R: Threads + Sync>(
-        &self,
-        rt: &R,
-        helpers: &Helpers,
-        job: &Job,
-        names: Vec<Vec<u8>>,
-        scratch: &mut Scratch,
-    ) -> Result<CountedFiles, AllocError>
-        requires { scratch.old.path.directory ≡ job.now.path }
-        ensures { IfOk result (IsCounted (T.gives self.now.tree.now) self.now.filters.now job.now (bytes_of names.items) []) }
-    {
-        let absent = Vec::new(self.alloc);
-        if helpers.count() == 0 {
-            return self.count(job, names, absent, scratch);
-        }
-        self.count_side_by_side(rt, helpers, job, names, absent)
     }
 
     /// Like `count`, but if threads are idle, the files that follow a large file are counted in parts side by side.
@@ -119,7 +79,12 @@ impl<T: Tree> LevelReader<'_, T> {
     {
         let (mut found, rest) = self.count_until_large(job, names, absent, scratch)?;
         let helpers = take_helpers(threads.idle, rest.len());
-        let later = self.count_by_helpers(threads.rt, &helpers, job, rest, scratch);
+        let none = Vec::new(self.alloc);
+        let later = if helpers.count() == 0 {
+            self.count(job, rest, none, scratch)
+        } else {
+            self.count_side_by_side(threads.rt, &helpers, job, rest, none)
+        };
         threads.idle.give_back(helpers);
         found.append(later?)?;
         Ok(found)

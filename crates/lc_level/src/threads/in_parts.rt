@@ -67,18 +67,8 @@ impl CountedFiles {
 }
 
 impl<T: Tree> LevelReader<'_, T> {
-    // Counts the files of one part, with buffers of its own.
-    fn count_part(&self, job: &Job, names: Vec<Vec<u8>>) -> Result<CountedFiles, AllocError>
-        ensures { IfOk result (IsCounted (T.gives self.now.tree.now) self.now.filters.now job.now (bytes_of names.items) []) }
-    {
-        let mut scratch = Scratch::new(self.alloc)?;
-        let Ok(()) = scratch.path.enter(job.path()) else {
-            return Err(AllocError);
-        };
-        self.count(job, names, Vec::new(self.alloc), &mut scratch)
-    }
-
-    // Counts the files of each run, with a thread for each run but one. It starts no more threads than were taken.
+    // Counts the files of each run, with buffers of its own and with a thread for each run but one. It starts no more threads than were
+    // taken.
     fn count_runs<R: Threads + Sync>(
         &self,
         rt: &R,
@@ -93,7 +83,13 @@ impl<T: Tree> LevelReader<'_, T> {
         let run = |names: Vec<Vec<u8>>| -> Result<CountedFiles, AllocError>
             ensures { IfOk result (IsCounted (T.gives self.entry.now.tree.now) self.entry.now.filters.now job.entry.now
                 (bytes_of names.items) []) }
-        { self.count_part(job, names) };
+        {
+            let mut scratch = Scratch::new(self.alloc)?;
+            let Ok(()) = scratch.path.enter(job.path()) else {
+                return Err(AllocError);
+            };
+            self.count(job, names, Vec::new(self.alloc), &mut scratch)
+        };
         thread::map_vec(rt, runs, &run)
     }
 

@@ -1,7 +1,7 @@
 use Rattle.std.proofs.Common.{◌≡◌}
 use Rattle.std.specs.List.{filter, list_any}
 use Rattle.lc_level.specs.Narrowing.{leads_to}
-use Rattle.lc_level.proofs.narrowing.Wanted.part_of.Given as goal
+use Rattle.lc_level.proofs.narrowing.Selection.part_of.Given as goal
 
 abbrev pub invariant-loop-entry : goal.invariant-loop-entry
 invariant-loop-entry l =

@@ -1,6 +1,6 @@
 use Rattle.std.proofs.Common.{◌≡◌, ◌++◌, map, drop}
 use Rattle.lc_level.specs.{Level.absent_faults, PathSteps.unled}
-use Rattle.lc_level.proofs.narrowing.Wanted.absent.Given as goal
+use Rattle.lc_level.proofs.narrowing.Selection.absent.Given as goal
 
 abbrev pub invariant-loop-rest : goal.invariant-loop-rest
 invariant-loop-rest l =

@@ -2,7 +2,7 @@ use Rattle.std.proofs.Common.{sym, subst}
 use Rattle.lc_level.specs.Narrowing.{each_once, paths_in}
 use Rattle.lc_level.proofs.{EachOnce.once_in_order, PathOrder.seen_in_order}
 use Rattle.lc_tree.specs.ByteOrder.{AreInOrder}
-use Rattle.lc_level.proofs.narrowing.only_paths.OnlyPaths.wanted_in.Goals as goal
+use Rattle.lc_level.proofs.narrowing.only_paths.OnlyPaths.selection_in.Goals as goal
 
 pub invariant_of-result : goal.invariant_of-result
 invariant_of-result c =
