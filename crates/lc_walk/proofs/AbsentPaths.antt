@@ -1,27 +1,21 @@
 -- The paths that are asked for and absent, by the names from the top down to them.
-use Rattle.std.proofs.Common.{◌≡◌, ◌≢◌, ℕ, ◌==◌, Bool, true, false, not, cond, List, [], ◌∷◌, ◌++◌, map, refl, sym, ◌∙◌, ap, subst, inl}
-use Rattle.std.proofs.{Common.{inr, ◌⊎◌, Option, Some, None, append-nil, bytes_eq, eq-eqb}, lemmas.Bool.{eqb-true, or_parts, not-true}}
+use Rattle.std.proofs.Common.{arith, rules, ◌≡◌, ◌≢◌, ℕ, ◌==◌, Bool, true, false, cond, List, [], ◌∷◌, ◌++◌, map, refl, sym, ◌∙◌, ap}
+use Rattle.std.proofs.{Common.{subst, inl, inr, ◌⊎◌, Option, Some, None, append-nil, bytes_eq, eq-eqb}, lemmas.Grind.common_steps}
+use Rattle.std.proofs.lemmas.Bool.{eqb-true, or_parts, not-true}
 use Rattle.std.proofs.lemmas.List.{append_cancel_left, Splits.{slice_split-cons_yes, slice_split-cons_no}}
-use Rattle.std.specs.{declared.cmp.Ordering.TheVariants.Less, List.{filter, filter_map, cons_option, list_any, onto_first, AllByRecursion}}
-use Rattle.std.specs.{List.Sorted.IsStrictlySortedBy, Option.is_some, Ordering.is_lt}
+use Rattle.std.specs.List.{filter, filter_map, cons_option, list_any, onto_first, AllByRecursion, Sorted.IsStrictlySortedBy}
+use Rattle.std.specs.Option.{is_some}
 use Rattle.lc_board.proofs.Weights.{each-map}
 use Rattle.lc_glob.specs.{Bytes.slash, Path.{path_in, segments_of}}
 use Rattle.lc_glob.proofs.Naming.{segments_apart, some_segment}
-use Rattle.lc_level.specs.{Answers.{Item, entry_of}, Narrowing.{after, stands_below, rest_from, put_among, each_once, rests, leads_to}}
+use Rattle.lc_level.specs.{Answers.{Item, entry_of}, Narrowing.{after, stands_below, rest_from, put_among, each_once, leads_to}}
 use Rattle.lc_level.specs.Narrowing.{absent_from, paths_in}
 use Rattle.lc_level.proofs.{AskedPaths.rest_is, EachOnce.once_in_order, PathOrder.not_itself, WellFormed.{bytes_other, clash}}
 use Rattle.lc_level.proofs.PathNames.{one_name}
-use Rattle.lc_tree.specs.{ByteOrder.{bytes_cmp, AreInOrder}, Paths.names_of_path}
+use Rattle.lc_tree.specs.{ByteOrder.AreInOrder, Paths.names_of_path}
 use Rattle.lc_walk.proofs.{Distinct.Distinct, Elements.In, TakingPart.{each_filter, each_passes}}
 
 -- ---- paths seen from a directory
-
--- the top isn't seen from itself
-rest_some : (d path rest : List ℕ) → rest_from d path ≡ Some rest → d ≡ [] → rest ≢ []
-rest_some [] [] rest e top none = let h : None ≡ Some rest = e in absurd (cc h)
-rest_some [] (b ∷ bs) rest e top none =
-    let h : Some (b ∷ bs) ≡ Some [] = e ∙ ap Some none in absurd (cc h)
-rest_some (b ∷ bs) path rest e top none = absurd (cc top)
 
 -- the names of a path that is seen from a directory
 pub names_of_rest : (d rest : List ℕ) → (d ≡ [] → rest ≢ []) → names_of_path (path_in d rest) ≡ names_of_path d ++ segments_of rest
@@ -60,15 +54,8 @@ first_segment (b ∷ bs) name more e = at (b == 47) refl (segments_of bs) refl (
 -- what doesn't begin with a name stands neither there nor below it
 pub not_below : (d rest name path : List ℕ) (more : List (List ℕ)) → (d ≡ [] → rest ≢ []) → bytes_eq name rest ≡ false
     → stands_below rest name ≡ false → names_of_path path ≡ names_of_path d ++ name ∷ more → path_in d rest ≢ path
-not_below d rest name path more some other elsewhere names e = at (first_segment rest name more same)
-  where
-    same : segments_of rest ≡ name ∷ more
-    same = append_cancel_left (names_of_path d) (segments_of rest) (name ∷ more)
-        (sym (names_of_rest d rest some) ∙ ap names_of_path e ∙ names)
-
-    at : (rest ≡ name) ⊎ (stands_below rest name ≡ true) → ⊥
-    at (inl is) = bytes_other name rest other (sym is)
-    at (inr below) = clash below elsewhere
+not_below d rest name path more some other elsewhere names =
+    search (rules, arith, first_segment, append_cancel_left, names_of_rest, bytes_other, clash)
 
 -- nor at the directory
 pub not_above : (d rest : List ℕ) → (d ≡ [] → rest ≢ []) → path_in d rest ≢ d
@@ -91,11 +78,7 @@ rests_apart d (r ∷ rs) a = (others rs a.0, rests_apart d rs a.1)
 rising_distinct : (paths : List (List ℕ)) → AreInOrder paths → Distinct paths
 unfolding IsStrictlySortedBy
 rising_distinct [] order = tt
-rising_distinct (path ∷ paths) order = (
-  each-map (λ p. bytes_cmp path p ≡ Less) (λ p. path ≢ p) (λ p less same. not_itself p (subst (λ q. bytes_cmp q p ≡ Less) same less))
-      paths order.0,
-  rising_distinct paths order.1,
-)
+rising_distinct (path ∷ paths) order = grind (arith, common_steps, each-map, not_itself, rising_distinct paths order.1)
 
 -- ---- the paths seen from a directory
 
@@ -104,19 +87,9 @@ module _ (d : List ℕ) where
   abbrev IsRestOf : List (List ℕ) → List ℕ → Type 0
   IsRestOf paths rest = (path : List ℕ) × In path paths × (rest_from d path ≡ Some rest)
 
-  more_rests : (path : List ℕ) (paths rs : List (List ℕ)) → AllByRecursion (IsRestOf paths) rs → AllByRecursion (IsRestOf (path ∷ paths)) rs
-  more_rests path paths rs a =
-      each-map (IsRestOf paths) (IsRestOf (path ∷ paths)) (λ r h. (h.0, inr h.1, h.2)) rs a
-
   rests_of : (paths : List (List ℕ)) → AllByRecursion (IsRestOf paths) (filter_map (rest_from d) paths)
   rests_of [] = tt
-  rests_of (path ∷ paths) = at (rest_from d path) refl (more_rests path paths _ (rests_of paths))
-    where
-      at : (o : Option (List ℕ)) → rest_from d path ≡ o
-          → AllByRecursion (IsRestOf (path ∷ paths)) (filter_map (rest_from d) paths)
-          → AllByRecursion (IsRestOf (path ∷ paths)) (cons_option o (filter_map (rest_from d) paths))
-      at None e rest = rest
-      at (Some r) e rest = ((path, inl refl, e), rest)
+  rests_of (path ∷ paths) = grind (arith, common_steps, each-map, rests_of paths)
 
   -- one rest has one path
   one_path : (p q r s : List ℕ) → rest_from d p ≡ Some r → rest_from d q ≡ Some s → p ≢ q → r ≢ s
@@ -143,22 +116,11 @@ module _ (d : List ℕ) where
 
 distinct_filter : (p : List ℕ → Bool) (xs : List (List ℕ)) → Distinct xs → Distinct (filter p xs)
 distinct_filter p [] a = tt
-distinct_filter p (x ∷ xs) a = at (p x) (distinct_filter p xs a.1)
-  where
-    at : (b : Bool) → Distinct (filter p xs) → Distinct (cond b (x ∷ filter p xs) (filter p xs))
-    at true rest = (each_filter (λ y. x ≢ y) p xs a.0, rest)
-    at false rest = rest
+distinct_filter p (x ∷ xs) a = grind (arith, common_steps, each_filter, distinct_filter p xs a.1)
 
 put_in : (path p : List ℕ) (ps : List (List ℕ)) → In path (put_among p ps) → In path (p ∷ ps)
 put_in path p [] i = i
-put_in path p (q ∷ qs) i = at (is_lt (bytes_cmp p q)) (bytes_eq p q) i (put_in path p qs)
-  where
-    at : (less same : Bool) → In path (cond less (p ∷ q ∷ qs) (q ∷ cond same qs (put_among p qs)))
-        → (In path (put_among p qs) → In path (p ∷ qs)) → In path (p ∷ q ∷ qs)
-    at true same i rest = i
-    at false true i rest = inr i
-    at false false (inl e) rest = inr (inl e)
-    at false false (inr i) rest = elim (rest i) [ inl e ↦ inl e | inr j ↦ inr (inr j) ]
+put_in path p (q ∷ qs) i = grind (arith, common_steps, put_in path p qs)
 
 once_in : (path : List ℕ) (paths : List (List ℕ)) → In path (each_once paths) → In path paths
 once_in path [] i = absurd i
@@ -171,24 +133,13 @@ abbrev pub NoneLeads : Option (List (List ℕ)) → List ℕ → List Item → L
 NoneLeads only d items rest = AllByRecursion (λ item. leads_to (entry_of item) rest ≡ false) items
 
 module _ (only : Option (List (List ℕ))) (d : List ℕ) (items : List Item) where
-  abbrev asked : List (List ℕ)
-  asked = each_once (paths_in only)
-
   -- no path is absent twice
   pub absent_distinct : Distinct (absent_from only d items)
-  absent_distinct =
-      distinct_filter _ (rests only d) (rests_distinct d asked (rising_distinct asked (once_in_order (paths_in only))))
+  absent_distinct = grind (arith, common_steps, distinct_filter, rests_distinct, rising_distinct, once_in_order)
 
   -- each is asked for
   pub absent_asked : AllByRecursion (λ rest. In (path_in d rest) (paths_in only) × (d ≡ [] → rest ≢ [])) (absent_from only d items)
-  absent_asked =
-      each_filter _ _ (rests only d)
-      (each-map (IsRestOf d asked) (λ rest. In (path_in d rest) (paths_in only) × (d ≡ [] → rest ≢ []))
-      (λ rest h. (
-        subst (λ p. In p (paths_in only)) (rest_is d h.0 rest h.2) (once_in h.0 (paths_in only) h.1),
-        rest_some d h.0 rest h.2,
-      ))
-      (rests only d) (rests_of d asked))
+  absent_asked = grind (arith, common_steps, each_filter, each-map, rest_is, once_in, rests_of)
 
   none_leads : (rest : List ℕ) (es : List Item) → list_any (λ item. leads_to (entry_of item) rest) es ≡ false
       → NoneLeads only d es rest
@@ -199,7 +150,4 @@ module _ (only : Option (List (List ℕ))) (d : List ℕ) (items : List Item) wh
 
   -- and none of the items leads to it
   pub absent_leads : AllByRecursion (NoneLeads only d items) (absent_from only d items)
-  absent_leads =
-      each-map (λ rest. not (list_any (λ item. leads_to (entry_of item) rest) items) ≡ true) (NoneLeads only d items)
-      (λ rest e. none_leads rest items (not-true _ e)) (absent_from only d items)
-      (each_passes (λ rest. not (list_any (λ item. leads_to (entry_of item) rest) items)) (rests only d))
+  absent_leads = grind (arith, common_steps, each-map, none_leads, not-true, each_passes)

@@ -1,33 +1,26 @@
 -- From what the board's close, the workers and `assemble` ensure to what a walk answers.
-use Rattle.std.proofs.Common.{◌≡◌, ◌≢◌, ℕ, suc, ◌≤◌, Bool, true, false, List, [], ◌∷◌, length, slice_get, refl, sym, ◌∙◌, ap, arith}
-use Rattle.std.proofs.{Common.{subst, Some, Result, Ok, Err, map, ◌⊎◌, inl, inr, ◌<◌}, lemmas.Bool.cases_lt}
+use Rattle.std.proofs.{lemmas.{Grind.common_steps, Bool.cases_lt}, Common.{◌≡◌, ◌≢◌, ℕ, ◌≤◌, Bool, true, false, List, [], ◌∷◌, length}}
+use Rattle.std.proofs.Common.{slice_get, sym, ◌∙◌, ap, arith, Some, Result, Ok, Err, map, ◌⊎◌, inl, inr, ◌<◌}
 use Rattle.std.specs.List.{list_any}
-use Rattle.lc_board.specs.{State.{Status, Absent, Open, Claimed, Returned, Faulted, status}, Part.part, LegalHistory.{IsOver, posts_under}}
-use Rattle.lc_board.specs.{Pass.Pass, ClosedBoard.{Promises, Settled, IsUnended, RefusesClose}, declared.event.Event.TheVariants.Over}
+use Rattle.lc_board.specs.{State.{Status, Open, Claimed, status}, Part.part, LegalHistory.{IsOver, posts_under}, Pass.Pass}
+use Rattle.lc_board.specs.{ClosedBoard.{Promises, Settled, IsUnended, RefusesClose}, declared.event.Event.TheVariants.Over}
 use Rattle.lc_board.specs.{declared.answers.{CloseFault.CloseFault, Ended.Ended}, WordClose.words_promises}
 use Rattle.lc_board.proofs.{OverHistories.over_stays, PostedNumbers.within}
 use Rattle.lc_walk.specs.{Tally.{TallyModel, StandsFor}, declared.{report.Report.Report, options.Options.Options}}
-use Rattle.lc_walk.specs.declared.broken_cause.BrokenCause.{BrokenCause, TheVariants.{TooManyDirs, TooDeep}}
-use Rattle.lc_walk.specs.{declared.{row.Row.{Row, TheVariants.{Listed, Faulted, Broken}}, walk_fault.WalkFault.WalkFault}, Rows.row_of}
-use Rattle.lc_walk.specs.{Rows.job_of, Lawful.{Asked, Says, IsCause}, Assembled.{IsBrokenBy, Assembles}, WorkerResults.AreLawful}
-use Rattle.lc_walk.specs.{WorkerResults.{files_of_passes, FoundOver}, BoardAnswers.{SomeRows, WalkAnswers}, CloseFaults.fault_of_close}
-use Rattle.lc_walk.specs.{WalkOptions.{asked_by, top_of}, Walks.Walks}
+use Rattle.lc_walk.specs.declared.{broken_cause.BrokenCause.{BrokenCause, TheVariants.{TooManyDirs, TooDeep}}, row.Row.Row}
+use Rattle.lc_walk.specs.{declared.walk_fault.WalkFault.WalkFault, Rows.{row_of, job_of}, Lawful.{Asked, Says, IsCause}}
+use Rattle.lc_walk.specs.{Assembled.{IsBrokenBy, Assembles}, WorkerResults.{AreLawful, files_of_passes, FoundOver}, BoardAnswers.SomeRows}
+use Rattle.lc_walk.specs.{BoardAnswers.WalkAnswers, CloseFaults.fault_of_close, WalkOptions.{asked_by, top_of}, Walks.Walks}
 use Rattle.lc_level.specs.{Answers.Answers, Job.JobModel, TreeAnswers.MayAnswer}
 use Rattle.lc_tree.specs.Trees.{Listings, Contents}
 use Rattle.lc_walk.proofs.{Composed.{some_rows, answers, walked, lawful_here, report_of_walk}, Placing.placed, Listings.got_here}
 use Rattle.lc_board.specs.declared.answers.CloseFault.TheVariants as close
-use Rattle.lc_board.specs.declared.answers.Ended.TheVariants as ended
 use Rattle.lc_walk.specs.declared.walk_fault.WalkFault.TheVariants as fault
 
 -- what a Broken row says of its cause
 cause_said : (ask : Asked) (f : Bool) (c : BrokenCause) (e : Ended Row) (a : Answers) (posts : List (ℕ × JobModel)) → Says ask f e a posts
     → IsBrokenBy c (row_of e) → IsCause ask f (job_of (row_of e)) a posts c
-cause_said ask f c (ended.Returned (Listed r)) a posts s b = absurd b
-cause_said ask f c (ended.Returned (Faulted r)) a posts s b = absurd b
-cause_said ask f c (ended.Returned (Broken r)) a posts s b = subst (IsCause ask f r.job a posts) b s.cause_is
-cause_said ask f c (ended.Faulted (Listed r)) a posts s b = absurd b
-cause_said ask f c (ended.Faulted (Faulted r)) a posts s b = absurd b
-cause_said ask f c (ended.Faulted (Broken r)) a posts s b = absurd s
+cause_said ask f c e a posts s b = grind (arith, common_steps)
 
 module _ (ask : Asked) (MayAnswer : List ℕ → Answers → Type 0) (capacity workers : ℕ) (top : JobModel) (promises : Promises)
     (passes : List (Pass JobModel Row))
@@ -84,11 +77,7 @@ module _ (ask : Asked) (MayAnswer : List ℕ → Answers → Type 0) (capacity w
 
   -- the board was not closed
   unended : (s : Status) → IsUnended s → s ≢ Open → ((w : ℕ) → s ≢ Claimed w) → ⊥
-  unended Absent u n m = u
-  unended Open u n m = n refl
-  unended (Claimed w) u n m = m w refl
-  unended Returned u n m = u
-  unended Faulted u n m = u
+  unended s u n m = grind (arith, common_steps)
 
   -- what a refused close answers
   pub refused_walk : 1 ≤ workers → ((w : ℕ) (p : Pass JobModel Row) → slice_get passes w ≡ Some p → (p.worker ≡ w) × FoundOver p) →
@@ -115,15 +104,9 @@ few_rows capacity workers top promises passes rows room settled = at (cases_lt c
 
 -- a mapped list is as long
 pub mapped : {A B : Type 0} (f : A → B) (xs : List A) → length (map f xs) ≡ length xs
-mapped f [] = refl
-mapped f (x ∷ xs) = ap suc (mapped f xs)
+mapped f xs = grind (arith, common_steps)
 
 -- what a walk over words answers, by what closing these promises
 pub by_words : (lists : List ℕ → Listings) (gives : List ℕ → Contents) (o : Options) (answer : Result Report WalkFault) →
     WalkAnswers (MayAnswer lists gives) (asked_by o) o.max_dirs o.threads (top_of o) words_promises answer → Walks lists gives o answer
-by_words lists gives o (Ok r) a = a refl
-by_words lists gives o (Err fault.Memory) a = tt
-by_words lists gives o (Err fault.TooManyDirs) a = a refl refl
-by_words lists gives o (Err fault.TooDeep) a = a refl
-by_words lists gives o (Err (fault.Torn n)) a = a refl refl
-by_words lists gives o (Err (fault.Mismatch w)) a = a refl
+by_words lists gives o answer a = grind (arith, common_steps)

@@ -1,5 +1,6 @@
 -- Each child of a row is at one place, and was posted.
-use Rattle.std.proofs.Common.{◌≡◌, ℕ, zero, suc, List, [], ◌∷◌, refl, sym, ◌∙◌, ap, subst, Some, inl, inr, slice_get}
+use Rattle.std.proofs.Common.{arith, ◌≡◌, ℕ, zero, suc, List, [], ◌∷◌, refl, sym, ◌∙◌, ap, Some, inl, inr, slice_get}
+use Rattle.std.proofs.lemmas.Grind.{common_steps}
 use Rattle.std.specs.List.{AllByRecursion}
 use Rattle.lc_glob.specs.Path.{path_in}
 use Rattle.lc_level.specs.Job.{JobModel}
@@ -9,23 +10,17 @@ use Rattle.lc_walk.proofs.{Levels.IsChild, NumbersReached.{same_head, same_tail}
 
 -- ---- the children that a row names, by their places
 
+first_child : (d : List ℕ × JobModel) (p : ℕ × JobModel) (c : ChildModel) → Some (record { name = d.0; number = p.0 }) ≡ Some c
+    → p.0 ≡ c.number
+first_child d p c x = let same : c ≡ record { name = d.0; number = p.0 } = cc in sym (ap (λ (k : ChildModel). k.number) same)
+
 -- the number of a child was posted
 pub child_posted : (cs : List (List ℕ × JobModel)) (ps : List (ℕ × JobModel)) (i : ℕ) (c : ChildModel)
     → slice_get (named cs ps) i ≡ Some c → IsIn c.number ps
 child_posted [] ps i c x = cc
 child_posted (d ∷ cs) [] i c x = cc
-child_posted (d ∷ cs) (p ∷ ps) zero c x = inl (ap (λ (k : ChildModel). k.number) (one (record { name = d.0; number = p.0 }) c x))
-  where
-    one : (a b : ChildModel) → Some a ≡ Some b → a ≡ b
-    one a b e = cc
+child_posted (d ∷ cs) (p ∷ ps) zero c x = inl (first_child d p c x)
 child_posted (d ∷ cs) (p ∷ ps) (suc i) c x = inr (child_posted cs ps i c x)
-
-first_child : (d : List ℕ × JobModel) (p : ℕ × JobModel) (c : ChildModel) → Some (record { name = d.0; number = p.0 }) ≡ Some c
-    → p.0 ≡ c.number
-first_child d p c x = ap (λ (k : ChildModel). k.number) (one (record { name = d.0; number = p.0 }) c x)
-  where
-    one : (a b : ChildModel) → Some a ≡ Some b → a ≡ b
-    one a b e = cc
 
 -- and at one place alone
 pub one_place : (cs : List (List ℕ × JobModel)) (ps : List (ℕ × JobModel)) (i k : ℕ) (c d : ChildModel) → IsOnce ps
@@ -33,10 +28,8 @@ pub one_place : (cs : List (List ℕ × JobModel)) (ps : List (ℕ × JobModel))
 one_place [] ps i k c d o x y e = cc
 one_place (b ∷ cs) [] i k c d o x y e = cc
 one_place (b ∷ cs) (p ∷ ps) zero zero c d o x y e = refl
-one_place (b ∷ cs) (p ∷ ps) zero (suc k) c d o x y e =
-    absurd (o.0 (subst (λ n. IsIn n ps) (sym (first_child b p c x ∙ e)) (child_posted cs ps k d y)))
-one_place (b ∷ cs) (p ∷ ps) (suc i) zero c d o x y e =
-    absurd (o.0 (subst (λ n. IsIn n ps) (sym (first_child b p d y ∙ sym e)) (child_posted cs ps i c x)))
+one_place (b ∷ cs) (p ∷ ps) zero (suc k) c d o x y e = grind (arith, common_steps, first_child, child_posted)
+one_place (b ∷ cs) (p ∷ ps) (suc i) zero c d o x y e = grind (arith, common_steps, first_child, child_posted)
 one_place (b ∷ cs) (p ∷ ps) (suc i) (suc k) c d o x y e = ap suc (one_place cs ps i k c d o.1 x y e)
 
 -- a posted number has a place in the row, and its path is the directory's with the name there
@@ -57,10 +50,7 @@ pub posted_child : (d : List ℕ) (job : ℕ → JobModel) (cs : List (List ℕ 
     → jobs_of ps ≡ jobs_of cs → AllByRecursion (IsChild d) cs →
     AllByRecursion (λ p. job p.0 ≡ p.1) ps → IsIn k ps → PlaceOf d job (named cs ps) k
 posted_child d job cs [] k e a b i = absurd i
-posted_child d job [] (p ∷ ps) k e a b i = absurd (none e)
-  where
-    none : p.1 ∷ jobs_of ps ≡ [] → ⊥
-    none e = cc
+posted_child d job [] (p ∷ ps) k e a b i = absurd (cc e)
 posted_child d job (c ∷ cs) (p ∷ ps) k e a b (inl same) = record {
   at = 0;
   child = record { name = c.0; number = p.0 };

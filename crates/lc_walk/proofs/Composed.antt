@@ -1,29 +1,27 @@
 -- From a closed board, and from what its workers left, to a closed walk and its report.
-use Rattle.std.proofs.Common.{◌≡◌, ℕ, zero, suc, ◌<◌, ◌≤◌, Bool, true, false, cond, List, [], ◌∷◌, ◌++◌, length, slice_get, map, refl}
-use Rattle.std.proofs.{Common.{sym, ◌∙◌, ap, arith, subst, Option, Some, None, IsPermutation}, lemmas.Bool.{or_left, or_right}}
-use Rattle.std.proofs.lemmas.List.Sorted.{IsPermutation-sym}
+use Rattle.std.proofs.Common.{rules, ◌≡◌, ℕ, zero, suc, ◌<◌, ◌≤◌, Bool, true, false, cond, List, [], ◌∷◌, ◌++◌, length, slice_get, map}
+use Rattle.std.proofs.{Common.{refl, sym, ◌∙◌, ap, arith, subst, Option, Some, None, IsPermutation}, lemmas.Grind.common_steps}
+use Rattle.std.proofs.lemmas.{Bool.{or_left, or_right}, List.Sorted.IsPermutation-sym}
 use Rattle.std.specs.List.{flat_map, list_any, range_with_len, enumerate_from, Sorted.IsStrictlySortedBy}
-use Rattle.lc_board.specs.{Ends.{Saying, RowsHold, ender, ends}, Part.part, RowsInPlace.InPlace, Pass.Pass, ClosedBoard.{Promises, Settled}}
-use Rattle.lc_board.specs.declared.{event.Event.{Event, TheVariants.{Post, Claim, Return, Fault, Over}}, answers.Ended.Ended}
-use Rattle.lc_walk.specs.{Tally.{TallyModel, CountedFile, StandsFor}, ReportLines.{file_paths, fault_paths, skipped_paths}, Report.IsReport}
-use Rattle.lc_walk.specs.declared.report.{Report.Report, findings.Findings.Findings}
-use Rattle.lc_walk.specs.{declared.row.Row.{Row, TheVariants.{Listed, Faulted, Broken}}, Found.{Found, path_of, found_of, found_at}}
-use Rattle.lc_walk.specs.{Rows.{row_of, job_of, IsWhole}, Lawful.{Asked, IsLawful, Says, counted_files}, TreeOfRows.numbers_below}
-use Rattle.lc_walk.specs.{TreeOfRows.{child_number, tree_from, children_by_rows, tree_of_rows}, ClosedWalks.{Walked, AreWhole, row_found}}
-use Rattle.lc_walk.specs.{ClosedWalks.rows_found, FoundReports.{tallied, tallied_in, file_in, fault_in, directory_in, skipped_lines_in}}
+use Rattle.lc_board.specs.{Ends.{Saying, RowsHold, ends}, Part.part, RowsInPlace.InPlace, Pass.Pass, ClosedBoard.{Promises, Settled}}
+use Rattle.lc_board.specs.declared.{event.Event.{Event, TheVariants.Return}, answers.Ended.Ended}
+use Rattle.lc_walk.specs.{Tally.{TallyModel, CountedFile, StandsFor}, Report.IsReport}
+use Rattle.lc_walk.specs.{declared.{report.{Report.Report, findings.Findings.Findings}, row.Row.{Row}}, Found.Found}
+use Rattle.lc_walk.specs.{Found.{path_of, found_at}, Rows.{row_of, job_of, IsWhole}, Lawful.{Asked, IsLawful, Says}}
+use Rattle.lc_walk.specs.{TreeOfRows.{numbers_below, child_number, tree_from, children_by_rows, tree_of_rows}, ClosedWalks.Walked}
+use Rattle.lc_walk.specs.{ClosedWalks.{AreWhole, row_found, rows_found}, FoundReports.{file_in, fault_in, directory_in, skipped_lines_in}}
 use Rattle.lc_walk.specs.FoundReports.{entries_in, tallied_of, files_of, faults_of, directories_of, skipped_lines_of, entry_count}
 use Rattle.lc_walk.specs.{FoundReports.IsReportOf, Assembled.{directories_by_row, files_by_row, faults_by_row, skipped_by_row}}
 use Rattle.lc_walk.specs.Assembled.{entries_by_row, directories_in_rows, files_in_rows, faults_in_rows, skipped_in_rows, entries_in_rows}
 use Rattle.lc_walk.specs.{Assembled.AreFindings, WorkerResults.{IsLawfulEnd, AreLawful, returned_files, files_given, files_of_pass}}
 use Rattle.lc_walk.specs.{WorkerResults.files_of_passes, BoardAnswers.{SomeRows, IsWalkReport}, RecursiveWalk.walk_of, RowViews.ChildModel}
-use Rattle.lc_tree.specs.{ByteOrder.AreApart, Listing.IsListing}
+use Rattle.lc_tree.specs.ByteOrder.{AreApart}
 use Rattle.lc_walk.proofs.{Joining.stands_permuted, RefusedPosts.{fuller_says, full_pass}, Reports.report_law, PathsApart.paths_once_law}
 use Rattle.lc_walk.proofs.PathsApart.{found_apart, file_list_apart, fault_list_apart, skipped_list_apart, all_lists_apart}
 use Rattle.lc_walk.proofs.{MovedLists.lists_moved, WalkOfRows.{core_law, one_answer_law}, OneTree.agrees, Listings.{flat_twice, sum_twice}}
 use Rattle.lc_walk.proofs.Listings.{flat_asked, tallied_went, files_went, faults_went, skipped_went, directories_went, entries_went}
 use Rattle.lc_walk.proofs.Listings.{got_here, by_number, by_place, sums_by_number, below_all, numbers_from_0}
-use Rattle.lc_level.specs.{Answers.{Answers, no_answers}, Job.JobModel, Level.{skipped_below, file_below, counted_in, skipped_in}}
-use Rattle.lc_level.specs.{WellFormed.IsWellFormed, FaultLines.fault_below}
+use Rattle.lc_level.specs.{Answers.{Answers, no_answers}, Job.JobModel, WellFormed.IsWellFormed}
 use Rattle.lc_board.proofs.{EndsInPlace.rows_hold, RowsOfWorkers.rows_are_ends, Weights.{each-map, flat_map-on}}
 use Rattle.lc_board.specs.declared.answers.Ended.TheVariants as ended
 
@@ -45,20 +43,8 @@ files_by_end ask (ended.Faulted r) a = []
 files_by_ends : (ask : Asked) (by : ℕ → Answers) (m : List (Event JobModel Row))
     → files_given ask m (map (λ x. by x.0) (ends m)) ≡ flat_map (λ x. files_by_end ask x.1 (by x.0)) (ends m)
 files_by_ends ask by [] = refl
-files_by_ends ask by (Post w p i j ∷ m) = files_by_ends ask by m
-files_by_ends ask by (Claim w i j ∷ m) = files_by_ends ask by m
 files_by_ends ask by (Return w i r ∷ m) = ap (λ l. returned_files ask r (by i) ++ l) (files_by_ends ask by m)
-files_by_ends ask by (Fault w i r ∷ m) = files_by_ends ask by m
-files_by_ends ask by (Over w ∷ m) = files_by_ends ask by m
-
--- lines that were made of a list, where it is asked for
-mapped_asked : {A B : Type 0} (f : A → B) (b : Bool) (xs : List A) → map f (cond b xs []) ≡ cond b (map f xs) []
-mapped_asked f true xs = refl
-mapped_asked f false xs = refl
-
-none_asked : {A : Type 0} (b : Bool) → cond {A = List A} b [] [] ≡ []
-none_asked true = refl
-none_asked false = refl
+files_by_ends ask by (event ∷ m) = files_by_ends ask by m
 
 abbrev or_no_answers : Option (Ended Row) → Answers → Answers
 or_no_answers None a = no_answers
@@ -102,8 +88,7 @@ module _ (ask : Asked) (MayAnswer : List ℕ → Answers → Type 0) (capacity w
         record {
           job_is = l.job_is;
           well_formed = l.well_formed;
-          says = fuller_says ask (is_full (slice_get passes (ender history i))) full e
-              (held.by i) _ (some_full passes (ender history i)) l.says;
+          says = grind (arith, common_steps, fuller_says, held, some_full);
         },
         l.may,
       )
@@ -162,47 +147,20 @@ module _ (ask : Asked) (MayAnswer : List ℕ → Answers → Type 0) (capacity w
   module _ (whole : AreWhole rows) where
     -- ---- what one row says is what it found
 
-    record RowFinds (e : Ended Row) (a : Answers) : Type 0 where
-      pub tally : files_by_end ask e a ≡ tallied_of (found_at ask.filters (job_of (row_of e)) a)
-      pub files : cond ask.lists.files (files_of (found_at ask.filters (job_of (row_of e)) a)) [] ≡ files_by_row (row_of e)
-      pub faults : faults_of (found_at ask.filters (job_of (row_of e)) a) ≡ faults_by_row (row_of e)
-      pub skipped : cond ask.lists.left_out (skipped_lines_of (found_at ask.filters (job_of (row_of e)) a)) [] ≡ skipped_by_row (row_of e)
-      pub directories : directories_of (found_at ask.filters (job_of (row_of e)) a) ≡ directories_by_row (row_of e)
-      pub entries : entry_count (found_at ask.filters (job_of (row_of e)) a) ≡ entries_by_row (row_of e)
+    record RowFinds (e : Ended Row) (a : Answers) (xs : List Found) : Type 0 where
+      pub tally : files_by_end ask e a ≡ tallied_of xs
+      pub files : cond ask.lists.files (files_of xs) [] ≡ files_by_row (row_of e)
+      pub faults : faults_of xs ≡ faults_by_row (row_of e)
+      pub skipped : cond ask.lists.left_out (skipped_lines_of xs) [] ≡ skipped_by_row (row_of e)
+      pub directories : directories_of xs ≡ directories_by_row (row_of e)
+      pub entries : entry_count xs ≡ entries_by_row (row_of e)
 
-    row_finds : (e : Ended Row) (a : Answers) (posts : List (ℕ × JobModel)) → Says ask full e a posts → IsWhole (row_of e) → RowFinds e a
-    row_finds (ended.Returned (Listed r)) a posts s w =
-        let l = s.level_is in
-        let f = found_of r.job in record {
-          tally = ap (λ x. map tallied (counted_files x)) l ∙ sym (ap (λ x. tallied_of (f x)) l ∙ tallied_went r.job s.fates s.absent);
-          files = ap (λ x. cond ask.lists.files (files_of (f x)) []) l
-              ∙ ap (λ xs. cond ask.lists.files xs []) (files_went r.job s.fates s.absent)
-              ∙ sym (mapped_asked (file_below r.job.path) ask.lists.files (counted_in s.fates))
-              ∙ ap (map (file_below r.job.path)) (sym s.files_are);
-          faults = ap (λ x. faults_of (f x)) l ∙ faults_went r.job s.fates s.absent ∙ ap (map (fault_below r.job.path)) (sym s.faults_are);
-          skipped = ap (λ x. cond ask.lists.left_out (skipped_lines_of (f x)) []) l
-              ∙ ap (λ xs. cond ask.lists.left_out xs []) (skipped_went r.job s.fates s.absent)
-              ∙ sym (mapped_asked (skipped_below r.job.path) ask.lists.left_out (skipped_in s.fates))
-              ∙ ap (map (skipped_below r.job.path)) (sym s.skipped_are);
-          directories = ap (λ x. directories_of (f x)) l ∙ directories_went r.job s.fates s.absent;
-          entries = ap (λ x. entry_count (f x)) l ∙ entries_went r.job s.fates s.absent ∙ sym s.entries_are;
-        }
-    row_finds (ended.Returned (Faulted r)) a posts s w = absurd s
-    row_finds (ended.Returned (Broken r)) a posts s w = absurd w
-    row_finds (ended.Faulted (Listed r)) a posts s w = absurd s
-    row_finds (ended.Faulted (Faulted r)) a posts s w =
-        let l = s.level_is in
-        let f = found_of r.job in record {
-          tally = sym (ap (λ x. tallied_of (f x)) l);
-          files = ap (λ x. cond ask.lists.files (files_of (f x)) []) l ∙ none_asked ask.lists.files;
-          faults = ap (λ x. faults_of (f x)) l;
-          skipped = ap (λ x. cond ask.lists.left_out (skipped_lines_of (f x)) []) l ∙ none_asked ask.lists.left_out;
-          directories = ap (λ x. directories_of (f x)) l;
-          entries = ap (λ x. entry_count (f x)) l;
-        }
-    row_finds (ended.Faulted (Broken r)) a posts s w = absurd w
+    row_finds : (e : Ended Row) (a : Answers) (posts : List (ℕ × JobModel)) → Says ask full e a posts → IsWhole (row_of e)
+        → RowFinds e a (found_at ask.filters (job_of (row_of e)) a)
+    row_finds e a posts s w = search (rules, arith, tallied_went, files_went, faults_went, skipped_went, directories_went, entries_went)
 
-    finds_here : (i : ℕ) (e : Ended Row) → slice_get rows i ≡ Some e → RowFinds e (answers i)
+    finds_here : (i : ℕ) (e : Ended Row) → slice_get rows i ≡ Some e
+        → RowFinds e (answers i) (found_at ask.filters (job_of (row_of e)) (answers i))
     finds_here i e is = row_finds e (answers i) _ (lawful_here i e is).0.says (whole i e is)
 
     -- ---- all rows
@@ -219,10 +177,7 @@ module _ (ask : Asked) (MayAnswer : List ℕ → Answers → Type 0) (capacity w
     at_row g i e is = ap (λ o. flat_map g (row_found ask o (answers i))) is
 
     tally_rows : flat_map by_end (enumerate_from 0 rows) ≡ tallied_of found
-    tally_rows =
-        sym (by_place (λ i. flat_map tallied_in (row_found ask (slice_get rows i) (answers i))) by_end rows
-        (λ i e is. at_row tallied_in i e is ∙ sym (finds_here i e is).tally ∙ ap (files_by_end ask e) (answers_are i e is)))
-        ∙ sym (spread_out tallied_in)
+    tally_rows = grind (arith, common_steps, by_place, at_row, finds_here, answers_are, spread_out)
 
     -- the files that the passes counted are those that the rows found, in some order
     pub files_found : IsPermutation (files_of_passes ask given passes) (tallied_of found)
@@ -246,14 +201,10 @@ module _ (ask : Asked) (MayAnswer : List ℕ → Answers → Type 0) (capacity w
     skipped_rows = asked_rows ask.lists.left_out skipped_lines_in skipped_by_row (λ i e is. (finds_here i e is).skipped)
 
     fault_rows : faults_of found ≡ faults_in_rows rows
-    fault_rows = spread_out fault_in ∙ by_number (λ i. flat_map fault_in (row_found ask (slice_get rows i) (answers i)))
-        (λ e. faults_by_row (row_of e)) rows
-        (λ i e is. at_row fault_in i e is ∙ (finds_here i e is).faults)
+    fault_rows = asked_rows true fault_in faults_by_row (λ i e is. (finds_here i e is).faults)
 
     directory_rows : directories_of found ≡ directories_in_rows rows
-    directory_rows = spread_out directory_in ∙ by_number (λ i. flat_map directory_in (row_found ask (slice_get rows i) (answers i)))
-        (λ e. directories_by_row (row_of e)) rows
-        (λ i e is. at_row directory_in i e is ∙ (finds_here i e is).directories)
+    directory_rows = asked_rows true directory_in directories_by_row (λ i e is. (finds_here i e is).directories)
 
     entry_rows : entry_count found ≡ entries_in_rows rows
     entry_rows =
@@ -286,8 +237,7 @@ module _ (ask : Asked) (MayAnswer : List ℕ → Answers → Type 0) (capacity w
 
     no_listings : IsWellFormed no_answers
     unfolding IsStrictlySortedBy
-    no_listings =
-        let none : IsListing [] = record { good = refl; order = tt; few = omega arith } in record { here = none; git = none; info = none }
+    no_listings = grind (arith, common_steps)
 
     well_formed_or : (i : ℕ) (o : Option (Ended Row)) → slice_get rows i ≡ o → IsWellFormed (or_no_answers o (held.by i))
     well_formed_or i None is = no_listings
@@ -326,13 +276,9 @@ module _ (ask : Asked) (MayAnswer : List ℕ → Answers → Type 0) (capacity w
           whole = whole;
           report = λ depth deep. report_law ask.lists found (walk_of ask.filters depth top (tree_of_rows rows answers)) r
               (IsPermutation-sym _ _ (core_law ask full capacity workers top history rows answers walked whole depth deep)) ours;
-          files_once = is.files_strictly
-              (subst (λ l. AreApart (file_paths l)) (file_rows ∙ sym tells.files) (file_list_apart found once ask.lists.files));
-          faults_once = is.faults_strictly
-              (subst (λ l. AreApart (fault_paths l)) (fault_rows ∙ sym tells.faults) (fault_list_apart found once));
-          skipped_once = is.skipped_strictly
-              (subst (λ l. AreApart (skipped_paths l)) (skipped_rows ∙ sym tells.skipped)
-              (skipped_list_apart found once ask.lists.left_out));
+          files_once = grind (arith, common_steps, file_rows, file_list_apart, once);
+          faults_once = grind (arith, common_steps, fault_rows, fault_list_apart, once);
+          skipped_once = grind (arith, common_steps, skipped_rows, skipped_list_apart, once);
           apart = all_lists_apart found once ask.lists r ours;
           one_answer = λ tree one depth deep. report_law ask.lists found (walk_of ask.filters depth top tree) r
               (IsPermutation-sym _ _ (one_answer_law tree ask full capacity workers top history rows answers walked whole at_top

@@ -1,4 +1,6 @@
 -- Lists of paths or names in which none stands twice, and what is picked from them.
+use Rattle.std.proofs.Common.{arith}
+use Rattle.std.proofs.lemmas.Grind.{common_steps}
 use Rattle.std.proofs.Common.{◌≡◌, ◌≢◌, ℕ, Bool, true, false, cond, List, [], ◌∷◌, ◌++◌, map, refl, sym}
 use Rattle.std.specs.List.{flat_map, AllByRecursion}
 use Rattle.lc_board.proofs.Weights.{each-map, each-append}
@@ -23,11 +25,7 @@ module _ {X : Type 0} (name : X → List ℕ) where
   pub each_picked : (keep : X → Bool) (P : List ℕ → Type 0) (xs : List X) → AllByRecursion (λ x. P (name x)) xs
       → AllByRecursion P (picked keep xs)
   each_picked keep P [] a = tt
-  each_picked keep P (x ∷ xs) a = at (keep x) (each_picked keep P xs a.1)
-    where
-      at : (b : Bool) → AllByRecursion P (picked keep xs) → AllByRecursion P (cond b (name x ∷ []) [] ++ picked keep xs)
-      at true rec = (a.0, rec)
-      at false rec = rec
+  each_picked keep P (x ∷ xs) a = grind (arith, common_steps, each_picked keep P xs a.1)
 
   by_name : (P : List ℕ → Type 0) (xs : List X) → AllByRecursion P (map name xs) → AllByRecursion (λ x. P (name x)) xs
   by_name P [] a = tt

@@ -1,6 +1,6 @@
 -- Elements of lists, from the front.
-use Rattle.std.proofs.Common.{◌≡◌, zero, suc, ◌<◌, Bool, true, false, cond, List, [], ◌∷◌, ◌++◌, map, refl, sym, subst, arith, ◌⊎◌, inl}
-use Rattle.std.proofs.{Common.{inr, ap}, lemmas.List.Elements.Contains-append_cases}
+use Rattle.std.proofs.{lemmas.{Grind.common_steps, List.Elements.Contains-append_cases}, Common.{◌≡◌, suc, ◌<◌, Bool, true, cond, List, []}}
+use Rattle.std.proofs.Common.{◌∷◌, ◌++◌, map, refl, sym, subst, arith, ◌⊎◌, inl, inr, ap}
 use Rattle.std.specs.List.{Contains, flat_map}
 
 -- x is an element, from the front
@@ -12,8 +12,7 @@ contains_none : {X : Type 0} (x : X) → Contains [] x → ⊥
 contains_none x c = let lt : c.0 < 0 = c.1 in omega (arith, lt)
 
 contains_one : {X : Type 0} (y x : X) → Contains (y ∷ []) x → y ≡ x
-contains_one y x (zero, lt, e) = e
-contains_one y x (suc k, lt, e) = absurd (omega (arith, lt))
+contains_one y x c = grind (arith, common_steps)
 
 -- an element that a list contains is in it
 pub is_in : {X : Type 0} (x : X) (xs : List X) → Contains xs x → In x xs
@@ -45,11 +44,7 @@ in_right x (z ∷ xs) ys i = inr (in_right x xs ys i)
 pub in_either : {X : Type 0} (x : X) (xs ys : List X) → In x (xs ++ ys) → In x xs ⊎ In x ys
 in_either x [] ys i = inr i
 in_either x (z ∷ xs) ys (inl e) = inl (inl e)
-in_either x (z ∷ xs) ys (inr i) = at (in_either x xs ys i)
-  where
-    at : In x xs ⊎ In x ys → ((z ≡ x) ⊎ In x xs) ⊎ In x ys
-    at (inl a) = inl (inr a)
-    at (inr b) = inr b
+in_either x (z ∷ xs) ys (inr i) = grind (arith, common_steps, in_either x xs ys i)
 
 -- an element of the lists of a list's elements is one of the list of one of them
 pub in_lists : {X Y : Type 0} (f : Y → List X) (x : X) (ys : List Y) → In x (flat_map f ys) → (y : Y) × In y ys × In x (f y)
@@ -68,13 +63,11 @@ of_lists f x y (z ∷ ys) (inr i) h = in_right x (f z) (flat_map f ys) (of_lists
 
 -- an element of a list that is there under a condition
 pub if_cond : {X : Type 0} (b : Bool) (x : X) (xs : List X) → In x (cond b xs []) → (b ≡ true) × In x xs
-if_cond true x xs i = (refl, i)
-if_cond false x xs i = absurd i
+if_cond b x xs i = grind (arith, common_steps)
 
 -- and the other way round
 pub cond_if : {X : Type 0} (b : Bool) (x : X) (xs : List X) → b ≡ true → In x xs → In x (cond b xs [])
-cond_if true x xs e i = i
-cond_if false x xs e i = cc
+cond_if b x xs e i = grind (arith, common_steps)
 
 -- an element of a mapped list is what one is mapped to
 pub in_mapped : {X Y : Type 0} (f : X → Y) (y : Y) (xs : List X) → In y (map f xs) → (x : X) × In x xs × (f x ≡ y)

@@ -1,30 +1,28 @@
 -- The entries of listed directories are what a walk finds.
-use Rattle.std.proofs.Common.{◌≡◌, ◌≢◌, ℕ, zero, suc, ◌+◌, ◌≤◌, List, [], ◌∷◌, ◌++◌, length, map, true, cond, ap, ◌∙◌, subst, arith, refl}
-use Rattle.std.proofs.{Common.{length-append, IsPermutation}, lemmas.List.{length-map, Sorted.length_permutation}}
-use Rattle.std.proofs.lemmas.List.Sums.{sum_by-append, sum_by-cons}
+use Rattle.std.proofs.Common.{rules, ◌≡◌, ◌≢◌, ℕ, suc, ◌+◌, ◌≤◌, List, [], ◌∷◌, ◌++◌, length, map, true, ap, subst, arith, refl}
+use Rattle.std.proofs.{Common.{length-append, IsPermutation, zero}, lemmas.Grind.common_steps}
+use Rattle.std.proofs.lemmas.List.{length-map, Sorted.length_permutation, Sums.{sum_by-append, sum_by-cons}}
 use Rattle.std.specs.List.{flat_map, Contains, AllByRecursion}
 use Rattle.lc_glob.specs.Path.{path_in}
-use Rattle.lc_level.specs.{Answers.{Item, Answers, Tree}, Job.JobModel, Level.{Fate, counted, failed, walked, skipped, Level}}
-use Rattle.lc_level.specs.{Level.{faulted_level, listed_level, level, walked_in, fates_of}, Narrowing.{part_of, absent_from, paths_in}}
-use Rattle.lc_level.specs.{RuleFiles.extended, FaultLines.FaultLineModel, Filters.FiltersModel}
-use Rattle.lc_level.specs.declared.fault_word.FaultWord.TheVariants.{Absent}
+use Rattle.lc_level.specs.{Answers.{Item, Answers, Tree}, Job.JobModel, Level.{Fate, counted, failed, walked, Level}}
+use Rattle.lc_level.specs.{Level.{faulted_level, listed_level, level, walked_in, fates_of}, Narrowing.{absent_from, paths_in, part_of}}
+use Rattle.lc_level.specs.{FaultLines.FaultLineModel, Filters.FiltersModel, declared.fault_word.FaultWord.TheVariants.Absent}
+use Rattle.lc_level.specs.RuleFiles.{extended}
 use Rattle.lc_tree.specs.Trees.{Listings, Contents}
 use Rattle.lc_walk.specs.{Accounts.{absent_line, IsAccounted, EntriesLaw}, Found.{Found, found_file, found_fault, found_directory}}
-use Rattle.lc_walk.specs.Found.{found_skipped, found_absent, found_by, found_of, found_at, children_of, children_at}
-use Rattle.lc_walk.specs.{RecursiveWalk.{walks_below, walk_by, walk_of}, WalkOptions.{asked_by, top_of}, FoundReports.entries_in}
-use Rattle.lc_walk.specs.FoundReports.{tallied_of, faults_of, directories_of, skipped_lines_of, entry_count, IsReportOf}
-use Rattle.lc_walk.specs.declared.{options.ReportLists.ReportLists, report.Report.Report}
+use Rattle.lc_walk.specs.{Found.{found_absent, found_by, found_of, found_at, children_at, children_of}, RecursiveWalk.walks_below}
+use Rattle.lc_walk.specs.{RecursiveWalk.{walk_by, walk_of}, WalkOptions.{asked_by, top_of}, FoundReports.{tallied_in, directory_in}}
+use Rattle.lc_walk.specs.FoundReports.{skipped_lines_in, tallied_of, faults_of, directories_of, skipped_lines_of, entry_count, IsReportOf}
+use Rattle.lc_walk.specs.{FoundReports.entries_in, declared.{options.ReportLists.ReportLists, report.Report.Report}}
 use Rattle.lc_walk.proofs.{Levels.level_keeps, AbsentPaths.absent_asked, Elements.{In, contains}, Listings.no_entries_within}
-use Rattle.lc_walk.proofs.{PresentFaults.{IsOther, IsFineFate, IsFineLevel, level_fine, each_led}, Reports.report_law, RowTrees.by_answers}
-use Rattle.lc_walk.proofs.WalkParts.{walk_splits, walk_maps, walk_grows, walk_each}
+use Rattle.lc_walk.proofs.{Listings.{no_entries_absent, after_absent}, PresentFaults.{IsOther, IsFineFate, IsFineLevel, level_fine}}
+use Rattle.lc_walk.proofs.{PresentFaults.each_led, Reports.report_law, RowTrees.by_answers, WalkParts.{walk_splits, walk_maps, walk_grows}}
 
 -- each entry is found, or is a child directory
 each_fate : (d : List ℕ) (fates : List (List ℕ × Fate)) → length (flat_map (found_by d) fates) + length (walked_in fates) ≡ length fates
 each_fate d [] = refl
 each_fate d ((name, counted file) ∷ fates) = omega (arith, each_fate d fates)
-each_fate d ((name, failed word) ∷ fates) = omega (arith, each_fate d fates)
-each_fate d ((name, walked job) ∷ fates) = omega (arith, each_fate d fates)
-each_fate d ((name, skipped kind reason) ∷ fates) = omega (arith, each_fate d fates)
+each_fate d ((name, fate) ∷ fates) = omega (arith, each_fate d fates)
 
 -- the paths that are absent of a directory
 abbrev absent_of : JobModel → Level → List (List ℕ)
@@ -38,30 +36,24 @@ own_of j (listed_level fates absent) = found_directory j.path (length fates) ∷
 
 -- a fault of what is there
 abbrev IsPresent : Found → Type 0
-IsPresent (found_file directory f) = Unit {0}
 IsPresent (found_fault path word) = IsOther word
-IsPresent (found_directory path entries) = Unit {0}
-IsPresent (found_skipped directory l) = Unit {0}
+IsPresent thing = Unit {0}
 
 present_by : (d : List ℕ) (fates : List (List ℕ × Fate)) → AllByRecursion (λ f. IsFineFate f.1) fates
     → AllByRecursion IsPresent (flat_map (found_by d) fates)
 present_by d [] fine = tt
-present_by d ((name, counted file) ∷ fates) fine = (tt, present_by d fates fine.1)
 present_by d ((name, failed word) ∷ fates) fine = (fine.0, present_by d fates fine.1)
 present_by d ((name, walked job) ∷ fates) fine = present_by d fates fine.1
-present_by d ((name, skipped kind reason) ∷ fates) fine = (tt, present_by d fates fine.1)
+present_by d ((name, fate) ∷ fates) fine = (tt, present_by d fates fine.1)
 
 own_present : (j : JobModel) (l : Level) → IsFineLevel l → AllByRecursion IsPresent (own_of j l)
-own_present j (faulted_level path word) fine = (fine, tt)
-own_present j (listed_level fates absent) fine = (tt, present_by j.path fates fine)
+own_present j l fine = grind (arith, common_steps, present_by)
 
 -- and so are the lines of faults
 present_lines : (xs : List Found) → AllByRecursion IsPresent xs → AllByRecursion (λ (f : FaultLineModel). IsOther f.word) (faults_of xs)
 present_lines [] fine = tt
-present_lines (found_file directory f ∷ xs) fine = present_lines xs fine.1
 present_lines (found_fault path word ∷ xs) fine = (fine.0, present_lines xs fine.1)
-present_lines (found_directory path entries ∷ xs) fine = present_lines xs fine.1
-present_lines (found_skipped directory l ∷ xs) fine = present_lines xs fine.1
+present_lines (thing ∷ xs) fine = present_lines xs fine.1
 
 abbrev absent_fault : List ℕ → Found
 absent_fault path = found_fault path Absent
@@ -71,8 +63,7 @@ absent_mapped d [] = refl
 absent_mapped d (rest ∷ absent) = ap (λ l. found_absent d rest ∷ l) (absent_mapped d absent)
 
 both_found : (j : JobModel) (l : Level) → found_of j l ≡ map absent_fault (absent_of j l) ++ own_of j l
-both_found j (faulted_level path word) = refl
-both_found j (listed_level fates absent) = ap (λ l. l ++ own_of j (listed_level fates absent)) (absent_mapped j.path absent)
+both_found j l = grind (arith, common_steps, absent_mapped)
 
 module _ (filters : FiltersModel) where
   abbrev own_at : JobModel → Answers → List Found
@@ -101,7 +92,8 @@ module _ (filters : FiltersModel) where
       level_keeps (λ l. AllByRecursion (Contains (paths_in filters.only)) (absent_of j l)) filters j a (λ p w. tt)
       (λ es e b. asked_paths (absent_from filters.only j.path es) (absent_asked filters.only j.path es))
     where
-      asked_paths : (rests : List (List ℕ)) → AllByRecursion (λ r. In (path_in j.path r) (paths_in filters.only) × (j.path ≡ [] → r ≢ [])) rests
+      asked_paths : (rests : List (List ℕ))
+          → AllByRecursion (λ r. In (path_in j.path r) (paths_in filters.only) × (j.path ≡ [] → r ≢ [])) rests
           → AllByRecursion (Contains (paths_in filters.only)) (map (path_in j.path) rests)
       asked_paths [] all = tt
       asked_paths (r ∷ rs) all = (contains (path_in j.path r) (paths_in filters.only) all.0.0, asked_paths rs all.1)
@@ -150,15 +142,7 @@ module _ (filters : FiltersModel) where
   counted_level : (j : JobModel) (es : List Item) (more : List Found)
       → entry_count ((found_directory j.path (length (fates_of filters j es)) ∷ flat_map (found_by j.path) (fates_of filters j es))
       ++ more) ≡ length (fates_of filters j es) + entry_count more
-  counted_level j es more =
-      let fates : List (List ℕ × Fate) = fates_of filters j es in
-      let own : List Found = flat_map (found_by j.path) fates in
-      omega (
-        arith,
-        sum_by-cons entries_in (found_directory j.path (length fates)) (own ++ more),
-        sum_by-append entries_in own more,
-        no_entries_within j.path fates,
-      )
+  counted_level j es more = grind (arith, common_steps, sum_by-cons, sum_by-append, no_entries_within)
 
   abbrev level_and : Walks → JobModel → Tree → List Item → List Found
   level_and walk k t es =
@@ -224,31 +208,26 @@ by_kinds : (xs : List Found)
     → length xs ≡ length (tallied_of xs) + length (faults_of xs) + length (directories_of xs) + length (skipped_lines_of xs)
 by_kinds [] = refl
 by_kinds (found_file directory f ∷ xs) = omega (arith, by_kinds xs)
-by_kinds (found_fault path word ∷ xs) = omega (arith, by_kinds xs)
-by_kinds (found_directory path entries ∷ xs) = omega (arith, by_kinds xs)
-by_kinds (found_skipped directory l ∷ xs) = omega (arith, by_kinds xs)
+by_kinds (thing ∷ xs) = omega (arith, by_kinds xs)
 
 -- what is absent gives faults alone
 tallied_beside : (ps : List (List ℕ)) (xs : List Found) → tallied_of (map absent_fault ps ++ xs) ≡ tallied_of xs
-tallied_beside [] xs = refl
-tallied_beside (p ∷ ps) xs = tallied_beside ps xs
+tallied_beside ps xs = after_absent tallied_in absent_fault (λ p. refl) ps xs
 
 directories_beside : (ps : List (List ℕ)) (xs : List Found) → directories_of (map absent_fault ps ++ xs) ≡ directories_of xs
-directories_beside [] xs = refl
-directories_beside (p ∷ ps) xs = directories_beside ps xs
+directories_beside ps xs = after_absent directory_in absent_fault (λ p. refl) ps xs
 
 skipped_beside : (ps : List (List ℕ)) (xs : List Found) → skipped_lines_of (map absent_fault ps ++ xs) ≡ skipped_lines_of xs
-skipped_beside [] xs = refl
-skipped_beside (p ∷ ps) xs = skipped_beside ps xs
+skipped_beside ps xs = after_absent skipped_lines_in absent_fault (λ p. refl) ps xs
 
 entries_beside : (ps : List (List ℕ)) (xs : List Found) → entry_count (map absent_fault ps ++ xs) ≡ entry_count xs
-entries_beside [] xs = refl
-entries_beside (p ∷ ps) xs =
-    omega (arith, sum_by-cons entries_in (absent_fault p) (map absent_fault ps ++ xs), entries_beside ps xs)
+entries_beside ps xs = no_entries_absent absent_fault (λ p. refl) ps xs
 
 faults_beside : (ps : List (List ℕ)) (xs : List Found) → faults_of (map absent_fault ps ++ xs) ≡ map absent_line ps ++ faults_of xs
 faults_beside [] xs = refl
 faults_beside (p ∷ ps) xs = ap (λ l. absent_line p ∷ l) (faults_beside ps xs)
+
+ruleset beside = (tallied_beside, directories_beside, skipped_beside, entries_beside, faults_beside)
 
 -- what a report tells of such paths and of other things
 record Tells (ps : List (List ℕ)) (xs : List Found) (r : Report) : Type 0 where
@@ -262,29 +241,7 @@ record Tells (ps : List (List ℕ)) (xs : List Found) (r : Report) : Type 0 wher
 tells : (lists : ReportLists) (ps : List (List ℕ)) (xs : List Found) (r : Report) → lists.left_out ≡ true →
     IsReportOf lists (map absent_fault ps ++ xs) r → Tells ps xs r
 tells lists ps xs r asked is =
-    let faults : IsPermutation (map absent_line ps ++ faults_of xs) r.faults.items =
-    subst (λ l. IsPermutation l r.faults.items) (faults_beside ps xs) is.faults_are in
-    let skipped : IsPermutation (skipped_lines_of xs) r.skipped.items =
-    subst (λ l. IsPermutation l r.skipped.items) (skipped_beside ps xs)
-    (subst (λ b. IsPermutation (cond b (skipped_lines_of (map absent_fault ps ++ xs)) []) r.skipped.items) asked is.skipped_are) in record {
-      faults = faults;
-      many = omega (
-        arith,
-        length_permutation (map absent_line ps ++ faults_of xs) r.faults.items faults,
-        length-append (map absent_line ps) (faults_of xs),
-        length-map ps absent_line,
-      );
-      all = omega (
-        arith,
-        by_kinds xs,
-        ap (λ s. s.files) is.totals,
-        ap length (tallied_beside ps xs),
-        is.directories,
-        ap length (directories_beside ps xs),
-        length_permutation (skipped_lines_of xs) r.skipped.items skipped,
-      );
-      entries = is.entries ∙ entries_beside ps xs;
-    }
+    search (rules, arith, beside, length_permutation, length-append, length-map, by_kinds)
 
 -- a report of walks to two depths accounts for all entries
 accounted : (lists : ReportLists) (filters : FiltersModel) (depth : ℕ) (top : JobModel) (t : Tree) (r : Report) →
@@ -296,21 +253,12 @@ accounted lists filters depth top t r asked is deeper present =
     let below = tells lists (absent_walk filters (suc depth) top t) (own_walk filters (suc depth) top t) r asked
     (report_law lists _ _ r (two_walks filters (suc depth) top t) deeper) in record {
       absent = absent_walk filters depth top t;
-      asked = walk_each (children_at filters) (absent_at filters) (Contains (paths_in filters.only)) (absent_here filters) depth top t;
+      asked = each_led filters (absent_at filters) (Contains (paths_in filters.only)) depth top t
+          (λ place k leads. absent_here filters k (t place));
       others = faults_of (own_walk filters depth top t);
       present = present_lines (own_walk filters depth top t) present;
       faults = here.faults;
-      all = omega (
-        arith,
-        here.entries,
-        few filters depth top t,
-        many filters depth top t,
-        walk_grows (children_at filters) (absent_at filters) depth top t,
-        here.many,
-        below.many,
-        here.all,
-        below.all,
-      );
+      all = grind (arith, common_steps, few, many, walk_grows);
     }
 
 -- so does the report of a walk

@@ -1,12 +1,12 @@
 -- What fewer workers answer, more may answer: those who are left over make no event. A report of a walk over a smaller board is one over a
 -- larger board.
-use Rattle.std.proofs.Common.{ℕ, ◌≤◌, Bool, true, false, List, Result, Ok, Err, arith, refl}
+use Rattle.std.proofs.Common.{ℕ, ◌≤◌, Bool, false, List, Result, Ok, Err, arith, refl}
 use Rattle.lc_board.specs.{ClosedBoard.Promises, WordClose.words_promises, declared.answers.Ended.Ended}
 use Rattle.lc_board.proofs.RowsOfWorkers.{legal_for_more, stays_legal}
 use Rattle.lc_level.specs.{Answers.Answers, Job.JobModel, TreeAnswers.MayAnswer as MayAnswerBy}
 use Rattle.lc_tree.specs.Trees.{Listings, Contents}
 use Rattle.lc_walk.specs.{ClosedWalks.AreWhole, Lawful.{Asked, Says}, Rows.{IsWhole, row_of}, WalkOptions.{asked_by, top_of}, Walks.Walks}
-use Rattle.lc_walk.specs.declared.{options.Options.Options, row.Row.{Row, TheVariants.{Listed, Faulted, Broken}}, report.Report.Report}
+use Rattle.lc_walk.specs.declared.{options.Options.Options, row.Row.{Row, TheVariants.{Listed, Faulted}}, report.Report.Report}
 use Rattle.lc_walk.specs.{declared.walk_fault.WalkFault.WalkFault, BoardAnswers.{SomeRows, IsWalkReport, IsTooDeepSomewhere, FillsAll}}
 use Rattle.lc_walk.specs.BoardAnswers.{WalkAnswers}
 use Rattle.lc_board.specs.declared.answers.Ended.TheVariants as ended
@@ -64,8 +64,7 @@ module _ (MayAnswer : List ℕ → Answers → Type 0) (ask : Asked) (capacity f
   answers_of_more (Err fault.Memory) a = tt
   answers_of_more (Err fault.TooManyDirs) a = λ keeps fills. fills_of_more (a keeps fills)
   answers_of_more (Err fault.TooDeep) a = λ keeps. deep_of_more (a keeps)
-  answers_of_more (Err (fault.Torn n)) a = a
-  answers_of_more (Err (fault.Mismatch w)) a = a
+  answers_of_more (Err other) a = a
 
 -- ---- a larger board
 
@@ -74,10 +73,9 @@ whole_says : (ask : Asked) (full : Bool) (e : Ended Row) (a : Answers) (posts : 
     → Says ask full e a posts → Says ask false e a posts
 whole_says ask full (ended.Returned (Listed r)) a posts whole s = s
 whole_says ask full (ended.Returned (Faulted r)) a posts whole s = s
-whole_says ask full (ended.Returned (Broken r)) a posts whole s = absurd whole
 whole_says ask full (ended.Faulted (Listed r)) a posts whole s = s
 whole_says ask full (ended.Faulted (Faulted r)) a posts whole s = s
-whole_says ask full (ended.Faulted (Broken r)) a posts whole s = absurd whole
+whole_says ask full other a posts whole s = absurd whole
 
 module _ (MayAnswer : List ℕ → Answers → Type 0) (ask : Asked) (small large workers : ℕ) (top : JobModel) (promises : Promises)
     (le : small ≤ large) where

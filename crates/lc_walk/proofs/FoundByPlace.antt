@@ -1,78 +1,25 @@
 -- What a walk finds, by the names that lead to it.
-use Rattle.std.proofs.Common.{◌≡◌, ℕ, zero, suc, ◌<◌, true, false, List, [], ◌∷◌, length, refl, sym, ◌∙◌, ap, subst, arith, ◌⊎◌, inl, inr}
-use Rattle.std.proofs.{Common.{map, Option, Some, None, Result, Ok, Err}, lemmas.List.length-map}
-use Rattle.std.specs.{List.flat_map, Option.option_map_or}
-use Rattle.lc_census.specs.declared.line_count.Count.{Count}
-use Rattle.lc_tree.specs.declared.entry.Kind.TheVariants.{File, Dir, Other}
-use Rattle.lc_level.specs.{declared.fault_word.FaultWord.{FaultWord, TheVariants.Absent}, Answers.{Item, file_item, directory_item}}
-use Rattle.lc_level.specs.{Answers.{other_item, name_of, Items, Answers, Tree}, FaultLines.FaultLineModel, Job.JobModel, Level.Reason}
-use Rattle.lc_level.specs.Level.{other_kind, Fate, counted, failed, walked, skipped, Level, faulted_level, listed_level, level, level_of}
-use Rattle.lc_level.specs.Level.{level_after, level_of_items, walked_in, fates_of, fate_of, file_fate, file_reason, reason_of, is_taken}
-use Rattle.lc_level.specs.{Level.child_job, Narrowing.{part_of, absent_from}, RuleFiles.{RuleBytes, rule_bytes, extended}}
-use Rattle.lc_level.specs.Filters.{FiltersModel}
+use Rattle.std.proofs.Common.{rules, ◌≡◌, ℕ, zero, suc, ◌<◌, true, List, [], ◌∷◌, length, refl, sym, subst, arith, ◌⊎◌, inl, inr, map}
+use Rattle.std.proofs.lemmas.{Grind.common_steps, List.length-map}
+use Rattle.std.specs.List.{flat_map}
+use Rattle.lc_level.specs.{declared.fault_word.FaultWord.FaultWord, Answers.{Item, directory_item, name_of, Answers, Tree}, Job.JobModel}
+use Rattle.lc_level.specs.Level.{Fate, counted, failed, skipped, Level, faulted_level, listed_level, level, walked_in, fates_of, fate_of}
+use Rattle.lc_level.specs.{Level.{is_taken, child_job}, Narrowing.{part_of, absent_from}, RuleFiles.extended, Filters.FiltersModel}
 use Rattle.lc_glob.specs.Path.{path_in}
 use Rattle.lc_walk.specs.Found.{Found, found_file, found_fault, found_directory, found_skipped, found_absent, found_by, found_of}
 use Rattle.lc_walk.specs.{Found.{found_at, children_of, children_at}, FoundAt.{IsListed, WalksInto, LeadsTo, HasEntry, Gives, IsFoundIn}}
 use Rattle.lc_walk.specs.{FoundAt.FoundLaw, RecursiveWalk.{walks_below, walk_of}}
 use Rattle.lc_level.proofs.Fates.{children_by, walked_items_are}
 use Rattle.lc_walk.proofs.Elements.{In, is_in, contains, in_skipped, in_right, in_either, in_lists, of_lists, if_cond, cond_if, in_mapped}
-use Rattle.lc_walk.proofs.Elements.{of_mapped}
+use Rattle.lc_walk.proofs.{Elements.of_mapped, Levels.level_cases}
 
 -- ---- one directory
-
--- a level is that of items whose rule files were read, or a fault
-level_cases : (P : Level → Type 0) (filters : FiltersModel) (j : JobModel) (a : Answers) →
-    ((p : List ℕ) (w : FaultWord) → P (faulted_level p w)) →
-    ((items : List Item) → a.here ≡ Ok items → (b : RuleBytes) → rule_bytes j.ignore.no_ignore j.path items a ≡ Ok b
-    → P (level_of_items filters items (extended j b))) → P (level filters j a)
-level_cases P filters j a faults items_are = at a.here refl
-  where
-    after : (items : List Item) → a.here ≡ Ok items → (r : Result RuleBytes FaultLineModel) → rule_bytes j.ignore.no_ignore j.path items a
-        ≡ r
-        → P (level_after filters j items r)
-    after items e (Ok b) read = items_are items e b read
-    after items e (Err f) read = faults f.path f.word
-
-    at : (o : Items) → a.here ≡ o → P (level_of filters j a o)
-    at (Ok items) e = after items e (rule_bytes j.ignore.no_ignore j.path items a) refl
-    at (Err word) e = faults j.path word
 
 -- the level of a directory that is listed without a fault
 listed_is : (filters : FiltersModel) (j : JobModel) (a : Answers) (items : List Item) (inside : JobModel)
     → IsListed j a items inside → level filters j a
     ≡ listed_level (fates_of filters inside (part_of filters.only j.path items)) (absent_from filters.only j.path items)
-listed_is filters j a items inside l =
-    ap (level_of filters j a) l.here ∙ ap (level_after filters j items) l.read
-    ∙ ap (λ k. listed_level (fates_of filters k (part_of filters.only j.path items)) (absent_from filters.only j.path items))
-    (sym l.is)
-
--- the name of a counted file, as its fate has it
-abbrev counted_name : List ℕ → Fate → List ℕ
-counted_name n (counted f) = f.path
-counted_name n (failed word) = n
-counted_name n (walked job) = n
-counted_name n (skipped kind reason) = n
-
-named_by_reason : (n : List ℕ) (out : Reason → Fate) (own : Fate) (o : Option Reason) →
-    ((reason : Reason) → counted_name n (out reason) ≡ n) → counted_name n own ≡ n → counted_name n (option_map_or out o own) ≡ n
-named_by_reason n out own None outs is = is
-named_by_reason n out own (Some reason) outs is = outs reason
-
-named_by_count : (filters : FiltersModel) (n : List ℕ) (k : JobModel) (c : Result Count FaultWord)
-    → counted_name n (file_fate filters k n c) ≡ n
-named_by_count filters n k (Ok count) = refl
-named_by_count filters n k (Err word) = refl
-
--- it is that of its item
-counted_named : (filters : FiltersModel) (k : JobModel) (item : Item) →
-    counted_name (name_of item) (fate_of filters k item) ≡ name_of item
-counted_named filters k (file_item n c rules) =
-    named_by_reason n (skipped File) (file_fate filters k n c) (file_reason filters k n) (λ reason. refl)
-    (named_by_count filters n k c)
-counted_named filters k (directory_item n) =
-    named_by_reason n (skipped Dir) (walked (child_job k n)) (reason_of filters k n true) (λ reason. refl) refl
-counted_named filters k (other_item n what) =
-    named_by_reason n (skipped (Other what)) (skipped (Other what) (other_kind what)) (reason_of filters k n false) (λ reason. refl) refl
+listed_is filters j a items inside l = grind (arith, common_steps)
 
 module _ (filters : FiltersModel) (j : JobModel) (a : Answers) where
   abbrev pair_of : JobModel → Item → List ℕ × Fate
@@ -81,42 +28,16 @@ module _ (filters : FiltersModel) (j : JobModel) (a : Answers) where
   abbrev taking_part : List Item → List Item
   taking_part items = part_of filters.only j.path items
 
-  entry_here : (items : List Item) (inside : JobModel) → IsListed j a items inside → (item : Item) → In item (taking_part items)
-      → (fate : Fate) → fate_of filters inside item ≡ fate → (n : List ℕ) → name_of item ≡ n → HasEntry filters j a n fate
-  entry_here items inside listed item here fate is n named = record {
-    items = items;
-    inside = inside;
-    listed = listed;
-    item = item;
-    has = contains item (taking_part items) here;
-    named = named;
-    fate_is = is;
-  }
-
   -- what an entry's fate gives, the directory gives
   given_by_entry : (items : List Item) (inside : JobModel) → IsListed j a items inside → (item : Item) → In item (taking_part items)
       → (x : Found) → In x (found_by j.path (pair_of inside item)) → Gives filters j a x
-  given_by_entry items inside listed item here x = at (fate_of filters inside item) refl
-    where
-      at : (fate : Fate) → fate_of filters inside item ≡ fate → In x (found_by j.path (name_of item, fate)) → Gives filters j a x
-      at (counted f) e (inl is) =
-          let named : name_of item ≡ f.path = sym (counted_named filters inside item) ∙ ap (counted_name (name_of item)) e in
-          subst (Gives filters j a) is (refl, entry_here items inside listed item here (counted f) e f.path named)
-      at (counted f) e (inr i) = absurd i
-      at (failed word) e (inl is) =
-          subst (Gives filters j a) is
-          (inr (inl (name_of item, refl, entry_here items inside listed item here (failed word) e (name_of item) refl)))
-      at (failed word) e (inr i) = absurd i
-      at (walked job) e i = absurd i
-      at (skipped kind reason) e (inl is) =
-          subst (Gives filters j a) is (refl, entry_here items inside listed item here (skipped kind reason) e (name_of item) refl)
-      at (skipped kind reason) e (inr i) = absurd i
+  given_by_entry items inside listed item here x has = search (rules, arith, contains)
 
   -- what is found of a directory it gives
   pub given_by_found : (x : Found) → In x (found_at filters j a) → Gives filters j a x
   given_by_found x i =
       level_cases (λ l. level filters j a ≡ l → In x (found_of j l) → Gives filters j a x) filters j a
-      (λ p w e f. faulted p w e f)
+      (λ w here e f. faulted j.path w e f) (λ items here fault read e f. faulted fault.path fault.word e f)
       (λ items here b read e f.
       either items (extended j b) (record { here = here; bytes = b; read = read; is = refl })
       (in_either x (map (found_absent j.path) (absent_from filters.only j.path items)) _ f))
@@ -160,18 +81,14 @@ module _ (filters : FiltersModel) (j : JobModel) (a : Answers) where
   beside_absent : (items : List Item) (inside : JobModel) → IsListed j a items inside → (x : Found)
       → In x (found_directory j.path (length (fates_of filters inside (taking_part items)))
       ∷ flat_map (found_by j.path) (fates_of filters inside (taking_part items))) → In x (found_at filters j a)
-  beside_absent items inside l x i =
-      subst (λ (v : Level). In x (found_of j v)) (sym (listed_is filters j a items inside l))
-      (in_right x (map (found_absent j.path) (absent_from filters.only j.path items)) _ i)
+  beside_absent items inside l x i = grind (arith, common_steps, listed_is, in_right)
 
   -- what the fate of an entry gives is found
   found_by_entry : (n : List ℕ) (fate : Fate) (x : Found) → HasEntry filters j a n fate → In x (found_by j.path (n, fate))
       → In x (found_at filters j a)
   found_by_entry n fate x h i =
       let fates : List (List ℕ × Fate) = fates_of filters h.inside (taking_part h.items) in
-      let own : In x (found_by j.path (pair_of h.inside h.item)) =
-      subst (λ m. In x (found_by j.path (m, fate_of filters h.inside h.item))) (sym h.named)
-      (subst (λ g. In x (found_by j.path (n, g))) (sym h.fate_is) i) in
+      let own : In x (found_by j.path (pair_of h.inside h.item)) = grind (arith, common_steps) in
       let here : In x (flat_map (found_by j.path) fates) =
       of_lists (found_by j.path) x (pair_of h.inside h.item) fates
       (of_mapped (pair_of h.inside) h.item (taking_part h.items) (is_in h.item (taking_part h.items) h.has)) own in
@@ -181,9 +98,7 @@ module _ (filters : FiltersModel) (j : JobModel) (a : Answers) where
   pub found_by_given : (x : Found) → Gives filters j a x → In x (found_at filters j a)
   found_by_given (found_directory path entries) (e, h) =
       let many = length (fates_of filters h.inside (taking_part h.items)) in
-      let same : found_directory j.path many ≡ found_directory path entries =
-      ap (λ p. found_directory p many) (sym e)
-      ∙ ap (found_directory path) (sym (h.many ∙ sym (length-map (taking_part h.items) (pair_of h.inside)))) in
+      let same : found_directory j.path many ≡ found_directory path entries = grind (arith, common_steps, length-map) in
       beside_absent h.items h.inside h.listed (found_directory path entries) (inl same)
   found_by_given (found_file directory f) (e, h) =
       subst (λ d. In (found_file d f) (found_at filters j a)) (sym e)
@@ -191,8 +106,7 @@ module _ (filters : FiltersModel) (j : JobModel) (a : Answers) where
   found_by_given (found_fault path word) (inl e) = subst (λ (l : Level). In (found_fault path word) (found_of j l)) (sym e) (inl refl)
   found_by_given (found_fault path word) (inr (inr h)) =
       let absent = absent_from filters.only j.path h.3.items in
-      let same : found_absent j.path h.0 ≡ found_fault path word =
-      ap (λ p. found_fault p Absent) (sym h.1) ∙ ap (found_fault path) (sym h.2) in
+      let same : found_absent j.path h.0 ≡ found_fault path word = grind (arith, common_steps) in
       subst (λ (v : Level). In (found_fault path word) (found_of j v)) (sym (listed_is filters j a h.3.items h.3.inside h.3.listed))
       (in_skipped (found_fault path word) (map (found_absent j.path) absent) _
       (subst (λ y. In y (map (found_absent j.path) absent)) same
@@ -208,18 +122,7 @@ module _ (filters : FiltersModel) (j : JobModel) (a : Answers) where
 module _ (filters : FiltersModel) (j : JobModel) (a : Answers) where
   by_child_item : (k : JobModel) (c : List ℕ × JobModel) (item : Item) → In c (children_by filters k item)
       → (item ≡ directory_item c.0) × (is_taken filters k c.0 true ≡ true) × (c.1 ≡ child_job k c.0)
-  by_child_item k c (file_item n count rules) i = absurd i
-  by_child_item k c (other_item n what) i = absurd i
-  by_child_item k c (directory_item n) i = at (if_cond (is_taken filters k n true) c ((n, child_job k n) ∷ []) i)
-    where
-      at : (is_taken filters k n true ≡ true) × In c ((n, child_job k n) ∷ [])
-          → (directory_item n ≡ directory_item c.0) × (is_taken filters k c.0 true ≡ true) × (c.1 ≡ child_job k c.0)
-      at (taken, inl e) = (
-        ap (λ (x : List ℕ × JobModel). directory_item x.0) e,
-        subst (λ (x : List ℕ × JobModel). is_taken filters k x.0 true ≡ true) e taken,
-        subst (λ (x : List ℕ × JobModel). x.1 ≡ child_job k x.0) e refl,
-      )
-      at (taken, inr i) = absurd i
+  by_child_item k c item i = grind (arith, common_steps, if_cond)
 
   -- a child directory is left in
   pub child_by_level : (c : List ℕ × JobModel) → In c (children_at filters j a)
@@ -227,7 +130,7 @@ module _ (filters : FiltersModel) (j : JobModel) (a : Answers) where
   child_by_level c =
       level_cases (λ l. In c (children_of l) → (inside : JobModel) × WalksInto filters j a c.0 inside × (c.1 ≡ child_job inside c.0))
       filters j a
-      (λ p w i. absurd i)
+      (λ w here i. absurd i) (λ items here fault read i. absurd i)
       (λ items here b read i.
       let part = part_of filters.only j.path items in
       let r = in_lists (children_by filters (extended j b)) c part (subst (In c) (walked_items_are filters (extended j b) part) i) in
@@ -278,46 +181,24 @@ module _ (filters : FiltersModel) where
       → In x (walk c.1 (λ place. t (c.0 ∷ place))) →
       In x (walks_below (found_at filters) (children_at filters) walk t cs)
   of_below walk x t c [] i h = absurd i
-  of_below walk x t c (e ∷ cs) (inl s) h =
-      in_skipped x (walk e.1 (λ place. t (e.0 ∷ place))) (walks_below (found_at filters) (children_at filters) walk t cs)
-      (subst (λ (d : List ℕ × JobModel). In x (walk d.1 (λ place. t (d.0 ∷ place)))) (sym s) h)
-  of_below walk x t c (e ∷ cs) (inr i) h =
-      in_right x (walk e.1 (λ place. t (e.0 ∷ place))) (walks_below (found_at filters) (children_at filters) walk t cs)
-      (of_below walk x t c cs i h)
+  of_below walk x t c (e ∷ cs) (inl s) h = grind (arith, common_steps, in_skipped, in_right)
+  of_below walk x t c (e ∷ cs) (inr i) h = grind (arith, common_steps, in_skipped, in_right, of_below walk x t c cs i h)
 
   deeper : (depth : ℕ) (j : JobModel) (t : Tree) (x : Found) (c : List ℕ × JobModel) (inside : JobModel)
       → WalksInto filters j (t []) c.0 inside → c.1 ≡ child_job inside c.0 →
       IsFoundIn filters depth c.1 (λ place. t (c.0 ∷ place)) x → IsFoundIn filters (suc depth) j t x
-  deeper depth j t x c inside l e r = record {
-    place = c.0 ∷ r.place;
-    shallow = omega (arith, r.shallow);
-    job = r.job;
-    leads = (inside, l, subst (λ (k : JobModel). LeadsTo filters k (λ place. t (c.0 ∷ place)) r.place r.job) e r.leads);
-    gives = r.gives;
-  }
-
-  -- the walks of a directory's children, if what they find is known
-  by_below : (depth : ℕ) (j : JobModel) (t : Tree) (x : Found)
-      → ((k : JobModel) (u : Tree) → In x (walk_of filters depth k u) → IsFoundIn filters depth k u x) →
-      In x (walks_below (found_at filters) (children_at filters) (walk_of filters depth) t
-      (children_at filters j (t []))) → IsFoundIn filters (suc depth) j t x
-  by_below depth j t x known b =
-      let r = in_below (walk_of filters depth) x t (children_at filters j (t [])) b in
-      let s = child_by_level filters j (t []) r.0 r.1 in
-      deeper depth j t x r.0 s.0 s.1 s.2 (known r.0.1 (λ place. t (r.0.0 ∷ place)) r.2)
+  deeper depth j t x c inside l e r = grind (arith, common_steps)
 
   by_here : (depth : ℕ) (j : JobModel) (t : Tree) (x : Found) → In x (found_at filters j (t []))
       → IsFoundIn filters (suc depth) j t x
-  by_here depth j t x a =
-      record { place = []; shallow = omega arith; job = j; leads = refl; gives = given_by_found filters j (t []) x a }
+  by_here depth j t x a = grind (arith, common_steps, given_by_found)
 
   by_either : (depth : ℕ) (j : JobModel) (t : Tree) (x : Found)
       → ((k : JobModel) (u : Tree) → In x (walk_of filters depth k u) → IsFoundIn filters depth k u x) →
       In x (found_at filters j (t []))
       ⊎ In x (walks_below (found_at filters) (children_at filters) (walk_of filters depth) t
       (children_at filters j (t []))) → IsFoundIn filters (suc depth) j t x
-  by_either depth j t x known (inl a) = by_here depth j t x a
-  by_either depth j t x known (inr b) = by_below depth j t x known b
+  by_either depth j t x known has = search (rules, arith, by_here, in_below, child_by_level, deeper)
 
   -- what the walk finds a directory gives that names lead to
   pub place_by_walk : (depth : ℕ) (j : JobModel) (t : Tree) (x : Found)
@@ -350,7 +231,4 @@ module _ (filters : FiltersModel) where
 
 -- what a walk finds, by the names that lead to it
 pub found_law : FoundLaw
-found_law filters depth top t x = (
-  λ i. place_by_walk filters depth top t x (is_in x (walk_of filters depth top t) i),
-  λ i. contains x (walk_of filters depth top t) (walk_by_place filters depth top t x i),
-)
+found_law = grind (arith, common_steps, place_by_walk, is_in, contains, walk_by_place)

@@ -1,9 +1,11 @@
 -- What the workers of a walk leave is gathered one after another.
+use Rattle.std.proofs.lemmas.Grind.{common_steps}
 use Rattle.std.proofs.Common.{◌≡◌, ℕ, zero, suc, List, [], ◌∷◌, ◌++◌, length, slice_get, refl, sym, ◌∙◌, ap, subst, Some, None, ◌⊎◌, inl}
 use Rattle.std.proofs.{Common.{inr, arith, length-append, append-nil}, lemmas.Grind.flat_map-append}
 use Rattle.std.specs.List.{flat_map}
 use Rattle.lc_walk.specs.{Running.{AllOver, TalliesAll}, Tally.{TallyModel, CountedFile, StandsFor}, TreeOfRows.numbers_below}
 use Rattle.lc_walk.specs.{WorkerResults.TalliesFor, declared.worker.{StopReason.TheVariants.Over, WorkerResult.WorkerResult}}
+use Rattle.lc_board.proofs.Places.{get_push_same}
 
 -- what stands in a list with one more at its end
 in_longer : {A : Type 0} (xs : List A) (x : A) (i : ℕ) (y : A) → slice_get (xs ++ x ∷ []) i ≡ Some y
@@ -11,30 +13,17 @@ in_longer : {A : Type 0} (xs : List A) (x : A) (i : ℕ) (y : A) → slice_get (
 in_longer [] x zero y e = inr (refl, cc e)
 in_longer [] x (suc i) y e = let n : None ≡ Some y = e in absurd (cc n)
 in_longer (z ∷ xs) x zero y e = inl e
-in_longer (z ∷ xs) x (suc i) y e = at (in_longer xs x i y e)
-  where
-    at : (slice_get xs i ≡ Some y) ⊎ ((i ≡ length xs) × (x ≡ y))
-        → (slice_get (z ∷ xs) (suc i) ≡ Some y) ⊎ ((suc i ≡ length (z ∷ xs)) × (x ≡ y))
-    at (inl f) = inl f
-    at (inr f) = inr (ap suc f.0, f.1)
+in_longer (z ∷ xs) x (suc i) y e = grind (arith, common_steps, in_longer xs x i y e)
 
 still_in : {A : Type 0} (xs : List A) (x : A) (i : ℕ) (y : A) → slice_get xs i ≡ Some y → slice_get (xs ++ x ∷ []) i ≡ Some y
 still_in [] x i y e = let n : None ≡ Some y = e in absurd (cc n)
 still_in (z ∷ xs) x zero y e = e
 still_in (z ∷ xs) x (suc i) y e = still_in xs x i y e
 
-last_in : {A : Type 0} (xs : List A) (x : A) → slice_get (xs ++ x ∷ []) (length xs) ≡ Some x
-last_in [] x = refl
-last_in (z ∷ xs) x = last_in xs x
-
 module _ {P : Type 0} (done : List (WorkerResult P)) (x : WorkerResult P) where
   -- all have found the board over, and one more
   pub over_more : AllOver done → x.end ≡ Over → AllOver (done ++ x ∷ [])
-  over_more all e w y is = at (in_longer done x w y is)
-    where
-      at : (slice_get done w ≡ Some y) ⊎ ((w ≡ length done) × (x ≡ y)) → y.end ≡ Over
-      at (inl f) = all w y f
-      at (inr f) = ap (λ (z : WorkerResult P). z.end) (sym f.1) ∙ e
+  over_more all e = grind (arith, common_steps, in_longer)
 
   one_longer : length (done ++ x ∷ []) ≡ suc (length done)
   one_longer = let l = length-append done (x ∷ []) in omega (arith, l)
@@ -49,7 +38,7 @@ module _ {P : Type 0} (done : List (WorkerResult P)) (x : WorkerResult P) where
       (ap (λ l. flat_map files (numbers_below (length done)) ++ l) (sym (append-nil (files (length done))))
       ∙ sym (flat_map-append files (numbers_below (length done)) (length done ∷ [])))
       (more (flat_map files (numbers_below (length done))) (files (length done))
-      (all files (λ w y is. each w y (still_in done x w y is))) (each (length done) x (last_in done x))))
+      (all files (λ w y is. each w y (still_in done x w y is))) (each (length done) x (get_push_same done x))))
 
 -- all were gathered
 pub all_done : {A : Type 0} (done rest all : List A) → done ++ rest ≡ all → rest ≡ [] → done ≡ all

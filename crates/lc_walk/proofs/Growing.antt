@@ -1,29 +1,24 @@
 -- What one step of a tally does to its rows.
-use Rattle.std.proofs.Common.{◌≡◌, ℕ, ◌+◌, ◌<◌, min, Bool, true, false, cond, List, [], ◌∷◌, ◌++◌, length, get_or, take, refl, sym, ◌∙◌}
-use Rattle.std.proofs.{Common.{ap, arith, subst, Option, Some, None, Result, Ok, Err}, Math.ListN.set, lemmas.Bool.false≢true}
+use Rattle.std.proofs.lemmas.{Grind.common_steps, Bool.false≢true}
 use Rattle.std.proofs.lemmas.List.{get_or-take, length-take, Sums.{sum_by-set, sum_by_push, get_or-le-sum_by}, Elements.All-set}
 use Rattle.std.proofs.lemmas.List.Folds.{list_any_none}
+use Rattle.std.proofs.Common.{◌≡◌, ℕ, ◌+◌, ◌<◌, Bool, true, false, cond, List, [], ◌∷◌, ◌++◌, length, get_or, take, refl, sym, ◌∙◌, ap}
+use Rattle.std.proofs.{Common.{arith, Option, Some, None, Result}, Math.ListN.set}
 use Rattle.std.specs.{Prelude.{IfSome, MatchOption, is_some}, Result.result_ok, List.{All, AllWithin, HoldsAt, sum_by}}
 use Rattle.std.specs.{List.Sorted.{IsBinarySearchResult, IsSearchInRange}, Ordering.{is_eq, ordering_reverse}}
-use Rattle.std.specs.declared.cmp.Ordering.{Ordering, TheVariants.{Less, Equal, Greater}}
+use Rattle.std.specs.declared.cmp.Ordering.{Ordering, TheVariants.Equal}
 use Rattle.lc_walk.specs.{Key.{Key, key_cmp, same_key}, TallyRows.{TallyRowModel, sums_of_rows, Gains, has_row, row_with}, Sums.plus}
 use Rattle.lc_walk.specs.{Sums.IsInRange, declared.tally.sums.Sums.Sums}
 use Rattle.lc_walk.proofs.{Keys.key_cmp_total, RowSums.{gives, SeesKeys, AddsAlike, has_sums, front_of}}
 
 -- what a row gives that has gained what another one gives
 gave : (b : Bool) (u w m s t : ℕ) → w ≡ u + m → s + cond b u 0 ≡ t + cond b w 0 → s ≡ t + cond b m 0
-gave true u w m s t e f = omega arith
-gave false u w m s t e f = omega arith
+gave b u w m s t e f = grind (arith, common_steps)
 
 -- a row of a key has room for what all rows have room for
 pub row_in_range : (rs : List TallyRowModel) (i : ℕ) (d : TallyRowModel) (s : Sums) → i < length rs
     → IsInRange (plus (sums_of_rows rs) s) → IsInRange (plus (get_or rs i d).sums s)
-row_in_range rs i d s within room = record {
-  files = let l = get_or-le-sum_by (λ (r : TallyRowModel). r.sums.files) rs i d within in let m = room.files in omega arith;
-  lines = let l = get_or-le-sum_by (λ (r : TallyRowModel). r.sums.lines) rs i d within in let m = room.lines in omega arith;
-  blank = let l = get_or-le-sum_by (λ (r : TallyRowModel). r.sums.blank) rs i d within in let m = room.blank in omega arith;
-  bytes = let l = get_or-le-sum_by (λ (r : TallyRowModel). r.sums.bytes) rs i d within in let m = room.bytes in omega arith;
-}
+row_in_range rs i d s within room = grind (arith, common_steps, get_or-le-sum_by)
 
 -- a row of the key gains s
 pub gains_set : (rs : List TallyRowModel) (i : ℕ) (y d : TallyRowModel) (k : Key) (s : Sums) → i < length rs
@@ -55,30 +50,16 @@ gains_set rs i y d k s within found same_as more = has_sums (rs ++ row_with k s 
 pub gains_absorbed : (rs ds : List TallyRowModel) (i : ℕ) (y d : TallyRowModel) (k : Key) (s : Sums) → ds ≡ rs → i < length rs
     → HoldsAt (λ r. key_cmp r.key k ≡ Equal) rs i → d ≡ get_or ds i d → y.key ≡ d.key
     → (IsInRange (plus d.sums s) → y.sums ≡ plus d.sums s) → IsInRange (plus (sums_of_rows rs) s) → Gains rs (set ds i y) k s
-gains_absorbed rs ds i y d k s same within found read key more room =
-    let here : d ≡ get_or rs i d = read ∙ ap (λ l. get_or l i d) same in
-    let fits : IsInRange (plus d.sums s) = subst (λ (r : TallyRowModel). IsInRange (plus r.sums s)) (sym here)
-    (row_in_range rs i d s within room) in
-    subst (λ l. Gains rs (set l i y) k s) (sym same)
-    (gains_set rs i y d k s within (found d) (key ∙ ap (λ (r : TallyRowModel). r.key) here)
-    (more fits ∙ ap (λ (r : TallyRowModel). plus r.sums s) here))
+gains_absorbed rs ds i y d k s same within found read key more room = grind (arith, common_steps, row_in_range, set, gains_set)
 
 -- what is found among the first rows
 pub found_in_front : (rs front : List TallyRowModel) (n : ℕ) (k : Key) (r : Result ℕ ℕ) (o : Option ℕ) → o ≡ result_ok r
     → front ≡ take n rs → IsSearchInRange r (length front) → IsBinarySearchResult (λ (x : TallyRowModel). key_cmp x.key k) front r
     → IfSome o (HoldsAt (λ (x : TallyRowModel). key_cmp x.key k ≡ Equal) rs)
-found_in_front rs front n k (Ok i) o is same within found =
-    let fewer : length front ≡ min n (length rs) = ap length same ∙ length-take n rs in
-    subst (λ p. IfSome p (HoldsAt (λ (x : TallyRowModel). key_cmp x.key k ≡ Equal) rs)) (sym is) (λ d.
-    subst (λ (x : TallyRowModel). key_cmp x.key k ≡ Equal)
-    (ap (λ l. get_or l i d) same ∙ get_or-take n rs i d (omega arith)) (found d))
-found_in_front rs front n k (Err i) o is same within found =
-    subst (λ p. IfSome p (HoldsAt (λ (x : TallyRowModel). key_cmp x.key k ≡ Equal) rs)) (sym is) tt
+found_in_front rs front n k r o is same within found = grind (arith, common_steps, length-take, get_or-take)
 
 reversed : (o : Ordering) → is_eq (ordering_reverse o) ≡ is_eq o
-reversed Less = refl
-reversed Equal = refl
-reversed Greater = refl
+reversed o = grind (arith, common_steps)
 
 -- a key that has a row is found by going through all rows
 pub known_found : (rs : List TallyRowModel) (k : Key) (r : Option ℕ) (found : ℕ → Type 0)

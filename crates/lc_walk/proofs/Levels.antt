@@ -1,33 +1,57 @@
 -- What holds of every level.
-use Rattle.std.proofs.Common.{◌≡◌, ℕ, cond, Bool, true, false, List, [], ◌∷◌, ◌++◌, refl, sym, subst, ◌⊎◌, inl, inr, Option, Some, None}
-use Rattle.std.proofs.{Common.{Result, Ok, Err, codes, bytes_eq}, lemmas.Bool.and_parts}
+use Rattle.std.proofs.Common.{arith, ◌≡◌, ℕ, cond, Bool, true, false, List, [], ◌∷◌, ◌++◌, refl, sym, subst, ◌⊎◌, inl, Option, Some}
+use Rattle.std.proofs.{Common.{Result, Ok, Err, bytes_eq}, lemmas.{Grind.common_steps, Bool.and_parts}}
 use Rattle.std.specs.List.{flat_map, AllByRecursion}
 use Rattle.lc_tree.specs.Listing.{IsListing}
-use Rattle.lc_level.specs.{declared.fault_word.FaultWord.FaultWord, Answers.{Item, file_item, directory_item, other_item, Items, Answers}}
-use Rattle.lc_level.specs.{Answers.name_of, Job.JobModel, FaultLines.FaultLineModel, RuleFiles.{Pair, RuleBytes, extended, file_named}}
-use Rattle.lc_level.specs.RuleFiles.{has_directory, is_top, has_git, and_then, reading, ignore_named, both_read, info_items, info_bytes}
-use Rattle.lc_level.specs.{RuleFiles.{own_bytes, rule_bytes}, Level.{Level, faulted_level, level, level_of, level_after, level_of_items}}
-use Rattle.lc_level.specs.{Level.{is_taken, child_job, walked_in, fates_of}, Narrowing.part_of, Filters.FiltersModel}
-use Rattle.lc_level.specs.WellFormed.{IsWellFormed, listed_in}
+use Rattle.lc_level.specs.{declared.fault_word.FaultWord.FaultWord, Answers.{Item, directory_item, Items, Answers, name_of}, Job.JobModel}
+use Rattle.lc_level.specs.{FaultLines.FaultLineModel, RuleFiles.{RuleBytes, extended, and_then, both_read, rule_bytes}, Level.Level}
+use Rattle.lc_level.specs.Level.{faulted_level, level, level_of_items, is_taken, child_job, walked_in, fates_of, level_after, level_of}
+use Rattle.lc_level.specs.{Narrowing.part_of, Filters.FiltersModel, WellFormed.{IsWellFormed, listed_in}}
 use Rattle.lc_glob.specs.Path.{path_in}
 use Rattle.lc_walk.specs.Found.{children_of, children_at}
 use Rattle.lc_level.proofs.{WellFormed.{IsGoodName, good_one, Spread, spread}, Fates.{children_by, walked_items_are}}
 use Rattle.lc_walk.proofs.TakingPart.{spread_part}
+
+-- a level is that of items whose rule files were read, or of a fault
+pub level_cases : (P : Level → Type 0) (filters : FiltersModel) (j : JobModel) (a : Answers)
+    → ((w : FaultWord) → a.here ≡ Err w → P (faulted_level j.path w)) →
+    ((items : List Item) → a.here ≡ Ok items → (f : FaultLineModel) → rule_bytes j.ignore.no_ignore j.path items a ≡ Err f
+    → P (faulted_level f.path f.word)) →
+    ((items : List Item) → a.here ≡ Ok items → (b : RuleBytes) → rule_bytes j.ignore.no_ignore j.path items a ≡ Ok b
+    → P (level_of_items filters items (extended j b))) → P (level filters j a)
+level_cases P filters j a unlisted unread items_are = at a.here refl
+  where
+    after : (items : List Item) → a.here ≡ Ok items → (r : Result RuleBytes FaultLineModel)
+        → rule_bytes j.ignore.no_ignore j.path items a ≡ r → P (level_after filters j items r)
+    after items e (Ok b) read = items_are items e b read
+    after items e (Err f) read = unread items e f read
+
+    at : (o : Items) → a.here ≡ o → P (level_of filters j a o)
+    at (Ok items) e = after items e (rule_bytes j.ignore.no_ignore j.path items a) refl
+    at (Err word) e = unlisted word e
 
 -- what holds of each fault, and of the level of the items with any chains, holds of the level
 pub level_keeps : (P : Level → Type 0) (filters : FiltersModel) (j : JobModel) (a : Answers)
     → ((p : List ℕ) (w : FaultWord) → P (faulted_level p w)) →
     ((items : List Item) → a.here ≡ Ok items → (b : RuleBytes) → P (level_of_items filters items (extended j b))) →
     P (level filters j a)
-level_keeps P filters j a faults items_keep = at a.here refl
-  where
-    after : (items : List Item) → a.here ≡ Ok items → (r : Result RuleBytes FaultLineModel) → P (level_after filters j items r)
-    after items e (Ok b) = items_keep items e b
-    after items e (Err f) = faults f.path f.word
+level_keeps P filters j a faults items_keep =
+    level_cases P filters j a (λ w e. faults j.path w) (λ items e f read. faults f.path f.word) (λ items e b read. items_keep items e b)
 
-    at : (o : Items) → a.here ≡ o → P (level_of filters j a o)
-    at (Ok items) e = after items e (rule_bytes j.ignore.no_ignore j.path items a)
-    at (Err word) e = faults j.path word
+-- what holds of each fault, and of the levels of the same items, holds of the levels by two filters
+pub both_levels : (P : Level → Level → Type 0) (one two : FiltersModel) (j : JobModel) (a : Answers)
+    → ((p : List ℕ) (w : FaultWord) → P (faulted_level p w) (faulted_level p w)) →
+    ((items : List Item) (b : RuleBytes) → P (level_of_items one items (extended j b)) (level_of_items two items (extended j b))) →
+    P (level one j a) (level two j a)
+both_levels P one two j a faults items_keep = at a.here
+  where
+    after : (items : List Item) (r : Result RuleBytes FaultLineModel) → P (level_after one j items r) (level_after two j items r)
+    after items (Ok b) = items_keep items b
+    after items (Err f) = faults f.path f.word
+
+    at : (o : Items) → P (level_of one j a o) (level_of two j a o)
+    at (Ok items) = after items (rule_bytes j.ignore.no_ignore j.path items a)
+    at (Err word) = faults j.path word
 
 -- ---- where a directory can be at fault
 
@@ -35,75 +59,35 @@ level_keeps P filters j a faults items_keep = at a.here refl
 abbrev pub IsOwnPlace : List ℕ → List ℕ → Type 0
 IsOwnPlace d p = (p ≡ d) ⊎ (((n : List ℕ) × IsGoodName n × (p ≡ path_in d n)) ⊎ (d ≡ []))
 
-top_is : (p : List ℕ) → is_top p ≡ true → p ≡ []
-top_is [] e = refl
-top_is (b ∷ bs) e = cc
-
 -- what holds of the fault, if there is one
-abbrev IfFault : {A : Type 0} → (List ℕ → Type 0) → Result A FaultLineModel → Type 0
+abbrev pub IfFault : {A : Type 0} → (FaultLineModel → Type 0) → Result A FaultLineModel → Type 0
 IfFault P (Ok x) = Unit {0}
-IfFault P (Err f) = P f.path
+IfFault P (Err f) = P f
 
-fault_of_and_then : {A B : Type 0} (P : List ℕ → Type 0) (r : Result A FaultLineModel) (next : A → Result B FaultLineModel)
-    → IfFault P r → ((x : A) → IfFault P (next x)) → IfFault P (and_then r next)
-fault_of_and_then P (Ok x) next first rest = rest x
-fault_of_and_then P (Err f) next first rest = first
+pub fault_of_and_then : {A B : Type 0} (P : FaultLineModel → Type 0) (r : Result A FaultLineModel)
+    (next : A → Result B FaultLineModel) → IfFault P r → ((x : A) → r ≡ Ok x → IfFault P (next x)) → IfFault P (and_then r next)
+fault_of_and_then P r next first rest = grind (arith, common_steps)
 
-fault_of_reading : (P : List ℕ → Type 0) (p : List ℕ) (o : Option (Result (List ℕ) FaultWord)) → P p → IfFault P (reading p o)
-fault_of_reading P p None k = tt
-fault_of_reading P p (Some (Ok bytes)) k = tt
-fault_of_reading P p (Some (Err word)) k = k
-
-fault_of_both : (P : List ℕ → Type 0) (p : List ℕ) (o : Option (Result (List ℕ) FaultWord)) (q : List ℕ)
-    (u : Option (Result (List ℕ) FaultWord)) → P p → P q → IfFault P (both_read p o q u)
-fault_of_both P p o q u k l =
-    fault_of_and_then P (reading p o) (λ x. and_then (reading q u) (λ y. Ok (record { rules = x; attributes = y })))
-    (fault_of_reading P p o k)
-    (λ x. fault_of_and_then P (reading q u) (λ y. Ok (record { rules = x; attributes = y })) (fault_of_reading P q u l) (λ y. tt))
-
--- nothing of `.git` is read where it is not there
-no_git : (no_ignore : Bool) (P : List ℕ → Type 0) (a : Answers) (there : Bool) → (there ≡ true → (p : List ℕ) → P p)
-    → IfFault P (and_then (info_items there a) (info_bytes no_ignore))
-no_git true P a false k = tt
-no_git false P a false k = tt
-no_git no_ignore P a true k = any (and_then (info_items true a) (info_bytes no_ignore))
-  where
-    any : (r : Result Pair FaultLineModel) → IfFault P r
-    any (Ok x) = tt
-    any (Err f) = k refl f.path
-
-git_of_top : (p : List ℕ) (items : List Item) → has_git p items ≡ true → p ≡ []
-git_of_top p items e = top_is p (and_parts (is_top p) (has_directory (codes ".git") items) e).0
+pub fault_of_both : (P : FaultLineModel → Type 0) (p : List ℕ) (o : Option (Result (List ℕ) FaultWord)) (q : List ℕ)
+    (u : Option (Result (List ℕ) FaultWord)) → ((w : FaultWord) → o ≡ Some (Err w) → P (record { path = p; word = w }))
+    → ((w : FaultWord) → u ≡ Some (Err w) → P (record { path = q; word = w })) → IfFault P (both_read p o q u)
+fault_of_both P p o q u k l = grind (arith, common_steps, fault_of_and_then)
 
 -- a fault of rule files has the path of one of them
-pub fault_place : (no_ignore : Bool) (path : List ℕ) (items : List Item) (a : Answers)
-    → IfFault (IsOwnPlace path) (rule_bytes no_ignore path items a)
-fault_place no_ignore path items a =
-    fault_of_and_then (IsOwnPlace path) (and_then (info_items (has_git path items) a) (info_bytes no_ignore))
-    (λ i. and_then (own_bytes no_ignore path items) (λ o. Ok (record { info = i; own = o })))
-    (no_git no_ignore (IsOwnPlace path) a (has_git path items) (λ e p. inr (inr (git_of_top path items e))))
-    (λ i. fault_of_and_then (IsOwnPlace path) (own_bytes no_ignore path items) (λ o. Ok (record { info = i; own = o }))
-    (fault_of_both (IsOwnPlace path) (path_in path (codes ".gitignore")) (ignore_named no_ignore (codes ".gitignore") items)
-    (path_in path (codes ".gitattributes")) (file_named (codes ".gitattributes") items)
-    (inr (inl (codes ".gitignore", good_one (codes ".gitignore") refl, refl)))
-    (inr (inl (codes ".gitattributes", good_one (codes ".gitattributes") refl, refl))))
-    (λ o. tt))
+fault_place : (no_ignore : Bool) (path : List ℕ) (items : List Item) (a : Answers)
+    → IfFault (λ f. IsOwnPlace path f.path) (rule_bytes no_ignore path items a)
+fault_place no_ignore path items a = grind (arith, common_steps, fault_of_and_then, and_parts, fault_of_both, good_one)
 
 -- the same, where the fault may be known to lie in the directory
 pub own_level_keeps : (P : Level → Type 0) (filters : FiltersModel) (j : JobModel) (a : Answers)
     → ((p : List ℕ) (w : FaultWord) → IsOwnPlace j.path p → P (faulted_level p w)) →
     ((items : List Item) → a.here ≡ Ok items → (b : RuleBytes) → P (level_of_items filters items (extended j b))) →
     P (level filters j a)
-own_level_keeps P filters j a faults items_keep = at a.here refl
-  where
-    after : (items : List Item) → a.here ≡ Ok items → (r : Result RuleBytes FaultLineModel) → IfFault (IsOwnPlace j.path) r
-        → P (level_after filters j items r)
-    after items e (Ok b) o = items_keep items e b
-    after items e (Err f) o = faults f.path f.word o
-
-    at : (o : Items) → a.here ≡ o → P (level_of filters j a o)
-    at (Ok items) e = after items e (rule_bytes j.ignore.no_ignore j.path items a) (fault_place j.ignore.no_ignore j.path items a)
-    at (Err word) e = faults j.path word (inl refl)
+own_level_keeps P filters j a faults items_keep =
+    level_cases P filters j a (λ w e. faults j.path w (inl refl))
+    (λ items e f read. faults f.path f.word
+    (subst (IfFault (λ d. IsOwnPlace j.path d.path)) read (fault_place j.ignore.no_ignore j.path items a)))
+    (λ items e b read. items_keep items e b)
 
 -- ---- the child directories
 
@@ -116,20 +100,13 @@ IsApart (c ∷ cs) = AllByRecursion (λ d. bytes_eq d.0 c.0 ≡ false) cs × IsA
 abbrev pub IsChild : List ℕ → (List ℕ × JobModel) → Type 0
 IsChild p c = IsGoodName c.0 × (c.1.path ≡ path_in p c.0)
 
-each_cond : (P : List ℕ × JobModel → Type 0) (b : Bool) (c : List ℕ × JobModel) (cs : List (List ℕ × JobModel)) → P c
-    → AllByRecursion P cs → AllByRecursion P (cond b (c ∷ []) [] ++ cs)
-each_cond P true c cs a e = (a, e)
-each_cond P false c cs a e = e
-
 each_by_item : (filters : FiltersModel) (j : JobModel) (P : List ℕ × JobModel → Type 0) (Q : List ℕ → Type 0) →
     ((n : List ℕ) → Q n → P (n, child_job j n)) →
     (es : List Item) → AllByRecursion (λ e. Q (name_of e)) es → AllByRecursion P (flat_map (children_by filters j) es)
 each_by_item filters j P Q f [] a = tt
-each_by_item filters j P Q f (file_item n c r ∷ es) a = each_by_item filters j P Q f es a.1
-each_by_item filters j P Q f (other_item n what ∷ es) a = each_by_item filters j P Q f es a.1
 each_by_item filters j P Q f (directory_item n ∷ es) a =
-    each_cond P (is_taken filters j n true) (n, child_job j n) (flat_map (children_by filters j) es) (f n a.0)
-    (each_by_item filters j P Q f es a.1)
+    grind (arith, common_steps, children_by, each_by_item filters j P Q f es a.1)
+each_by_item filters j P Q f (item ∷ es) a = each_by_item filters j P Q f es a.1
 
 -- what holds of the names of all directories among some items holds of their children
 pub each_child : (filters : FiltersModel) (j : JobModel) (P : List ℕ × JobModel → Type 0) (Q : List ℕ → Type 0) →
@@ -139,19 +116,18 @@ each_child filters j P Q f es a = subst (AllByRecursion P) (sym (walked_items_ar
 
 apart_cond : (b : Bool) (c : List ℕ × JobModel) (cs : List (List ℕ × JobModel)) → AllByRecursion (λ d. bytes_eq d.0 c.0 ≡ false) cs
     → IsApart cs → IsApart (cond b (c ∷ []) [] ++ cs)
-apart_cond true c cs a b = (a, b)
-apart_cond false c cs a b = b
+apart_cond b c cs a apart = grind (arith, common_steps)
 
 apart_children : (filters : FiltersModel) (j : JobModel) (es : List Item) → Spread es → IsApart (flat_map (children_by filters j) es)
 apart_children filters j [] t = tt
-apart_children filters j (file_item n c r ∷ es) t = apart_children filters j es t.2
-apart_children filters j (other_item n what ∷ es) t = apart_children filters j es t.2
 apart_children filters j (directory_item n ∷ es) t =
     apart_cond (is_taken filters j n true) (n, child_job j n) (flat_map (children_by filters j) es)
     (each_by_item filters j (λ d. bytes_eq d.0 n ≡ false) (λ m. bytes_eq m n ≡ false) (λ m e. e) es t.0)
     (apart_children filters j es t.2)
+apart_children filters j (item ∷ es) t = apart_children filters j es t.2
 
-good_names : (es : List Item) → Spread es → AllByRecursion (λ e. IsGoodName (name_of e)) es
+-- of which each is good
+pub good_names : (es : List Item) → Spread es → AllByRecursion (λ e. IsGoodName (name_of e)) es
 good_names [] t = tt
 good_names (e ∷ es) t = (t.1, good_names es t.2)
 

@@ -1,7 +1,7 @@
 -- The steps of going through the rows' children.
-use Rattle.std.proofs.Common.{◌≡◌, ◌≢◌, ℕ, zero, suc, ◌+◌, ◌<◌, ◌≤◌, ◌==◌, Bool, true, false, List, [], ◌∷◌, length, slice_get, slice_set}
-use Rattle.std.proofs.{Common.{refl, sym, ◌∙◌, ap, arith, subst, Some, ◌⊎◌, inl, inr, eq-eqb}, lemmas.Option.slice_get_within}
-use Rattle.std.proofs.lemmas.Bool.{eqb-true, cases_lt}
+use Rattle.std.proofs.Common.{rules, ◌≡◌, ◌≢◌, ℕ, zero, suc, ◌+◌, ◌<◌, ◌≤◌, Bool, true, false, List, [], length, slice_get, slice_set}
+use Rattle.std.proofs.{Common.{refl, sym, ◌∙◌, ap, arith, subst, Some, ◌⊎◌, inl, inr}, lemmas.{Grind.common_steps, Option.slice_get_within}}
+use Rattle.std.proofs.lemmas.Bool.{cases_lt, Decides.eqb_tells}
 use Rattle.lc_board.proofs.Places.{get_set_same, get_set_other}
 use Rattle.lc_board.specs.declared.answers.Ended.{Ended}
 use Rattle.lc_glob.specs.Path.{path_in}
@@ -11,30 +11,20 @@ use Rattle.lc_walk.proofs.Listings.{got_here}
 
 -- what is seen with one child more is that child, or was seen
 seen_more : (at j p i : ℕ) → Seen at (j + 1) p i → Seen at j p i ⊎ ((p ≡ at) × (i ≡ j))
-seen_more at j p i (inl l) = inl (inl l)
-seen_more at j p i (inr x) = split (cases_lt i j)
-  where
-    split : (i < j) ⊎ (j ≤ i) → Seen at j p i ⊎ ((p ≡ at) × (i ≡ j))
-    split (inl l) = inl (inr (x.0, l))
-    split (inr g) = let u = x.1 in inr (x.0, omega arith)
+seen_more at j p i seen = grind (arith, common_steps, cases_lt)
 
 more_seen : (at j p i : ℕ) → Seen at j p i → Seen at (j + 1) p i
-more_seen at j p i (inl l) = inl l
-more_seen at j p i (inr x) = let u = x.1 in inr (x.0, omega arith)
+more_seen at j p i seen = grind (arith, common_steps)
 
 not_seen : (at j p i : ℕ) → Seen at j p i → p ≡ at → i ≡ j → ⊥
-not_seen at j p i (inl l) e f = omega arith
-not_seen at j p i (inr x) e f = let u = x.1 in omega arith
+not_seen at j p i seen e f = grind (arith, common_steps)
 
 length_set : {A : Type 0} (xs : List A) (i : ℕ) (v : A) → length (slice_set xs i v) ≡ length xs
-length_set [] i v = refl
-length_set (x ∷ xs) zero v = refl
-length_set (x ∷ xs) (suc i) v = ap suc (length_set xs i v)
+length_set xs i v = grind (arith, common_steps)
 
 -- a list without length is empty
 pub no_length : {A : Type 0} (xs : List A) → length xs ≡ 0 → xs ≡ []
-no_length [] e = refl
-no_length (x ∷ xs) e = absurd (omega arith)
+no_length xs e = grind (arith, common_steps)
 
 module _ (rows : List (Ended Row)) where
   abbrev next_edge : (at j : ℕ) (child : ChildModel) → IsNext rows at j child → IsEdge rows at j child.number
@@ -42,31 +32,18 @@ module _ (rows : List (Ended Row)) where
 
   -- the child at a place has one number
   one_number : (at j k : ℕ) (child : ChildModel) → IsNext rows at j child → IsEdge rows at j k → child.number ≡ k
-  one_number at j k child n e =
-      let row : n.above ≡ e.above = some_row n.above e.above (sym n.is ∙ e.is) in
-      let same : child ≡ e.child = some_child child e.child (sym n.here ∙ ap (λ r. slice_get (children_in (row_of r)) j) row ∙ e.here) in
-      ap (λ (c : ChildModel). c.number) same ∙ e.number
-    where
-      some_row : (x y : Ended Row) → Some x ≡ Some y → x ≡ y
-      some_row x y e = cc
+  one_number at j k child n e = grind (arith, common_steps)
 
-      some_child : (x y : ChildModel) → Some x ≡ Some y → x ≡ y
-      some_child x y e = cc
+  -- what is linked so far is linked once more is seen, if no other edge to it is
+  linked_on : (at j next k child : ℕ) (h : IsLinkedSoFar rows at j child) → Seen next k h.parent h.place
+      → ((p i : ℕ) → Seen next k p i → IsEdge rows p i child → (p ≡ h.parent) × (i ≡ h.place)) → IsLinkedSoFar rows next k child
+  linked_on at j next k child h seen only = search (rules, arith)
 
   -- one child more, of another number
   other_links : (at j k : ℕ) (child : ChildModel) → IsNext rows at j child → child.number ≢ k → IsLinkedSoFar rows at j k
       → IsLinkedSoFar rows at (j + 1) k
-  other_links at j k child n o h = record {
-    row = h.row;
-    its = h.its;
-    parent = h.parent;
-    place = h.place;
-    lower = h.lower;
-    seen = more_seen at j h.parent h.place h.seen;
-    edge = h.edge;
-    path = h.path;
-    only = λ p i s e. only p i e (seen_more at j p i s);
-  }
+  other_links at j k child n o h =
+      linked_on at j at (j + 1) k h (more_seen at j h.parent h.place h.seen) (λ p i s e. only p i e (seen_more at j p i s))
     where
       only : (p i : ℕ) → IsEdge rows p i k → Seen at j p i ⊎ ((p ≡ at) × (i ≡ j)) → (p ≡ h.parent) × (i ≡ h.place)
       only p i e (inl s) = h.only p i s e
@@ -96,8 +73,7 @@ module _ (rows : List (Ended Row)) where
 
   -- why the rows make no tree at the child's number
   placed_at : (k : ℕ) (e : Ended Row) → 1 ≤ k → slice_get rows k ≡ Some e → IsPlaced rows k → IsLinkedOnce rows k (row_of e)
-  placed_at zero e some is p = absurd (omega arith)
-  placed_at (suc k) e some is p = p e is
+  placed_at k e some is p = grind (arith, common_steps)
 
   -- a number that is named twice isn't linked once
   pub torn_twice : (at j : ℕ) (child : ChildModel) (linked : List Bool) → IsNext rows at j child → 1 ≤ child.number →
@@ -126,20 +102,12 @@ module _ (rows : List (Ended Row)) where
   torn_path at j child d x n up its some other p =
       let h = placed_at child.number its.row some its.is p in
       let mine = h.only at j (next_edge at j child n) in
-      let dir : (job_of (row_of n.above)).path ≡ d = ap (λ r. (job_of (row_of r)).path) (one_row n.above up.row (sym n.is ∙ up.is))
-      ∙ up.path_is in
-      let above : n.above ≡ h.edge.above = one_row n.above h.edge.above (sym n.is ∙ ap (slice_get rows) mine.0 ∙ h.edge.is) in
-      let child_is : child ≡ h.edge.child = one_child child h.edge.child
-      (sym n.here ∙ ap (λ r. slice_get (children_in (row_of r)) j) above ∙ ap (slice_get (children_in (row_of h.edge.above)))
-      mine.1 ∙ h.edge.here) in
+      let row : n.above ≡ up.row = cc in
+      let dir : (job_of (row_of n.above)).path ≡ d = ap (λ r. (job_of (row_of r)).path) row ∙ up.path_is in
+      let above : n.above ≡ h.edge.above = cc (h.edge.is, mine.0) in
+      let child_is : child ≡ h.edge.child = cc (h.edge.here, mine.1) in
       other (sym its.path_is ∙ h.path ∙ ap (λ r. path_in (job_of (row_of r)).path h.edge.child.name) (sym above)
       ∙ ap (λ (c : ChildModel). path_in (job_of (row_of n.above)).path c.name) (sym child_is) ∙ ap (λ x. path_in x child.name) dir)
-    where
-      one_row : (x y : Ended Row) → Some x ≡ Some y → x ≡ y
-      one_row x y e = cc
-
-      one_child : (x y : ChildModel) → Some x ≡ Some y → x ≡ y
-      one_child x y e = cc
 
   -- the child's number gets its mark
   pub marks_set : (at j : ℕ) (child : ChildModel) (d x : List ℕ) (linked : List Bool) → IsNext rows at j child → IsPathAt rows at d
@@ -147,29 +115,19 @@ module _ (rows : List (Ended Row)) where
       slice_get linked child.number ≡ Some false → x ≡ path_in d child.name →
       AreLinked rows at j linked → AreLinked rows at (j + 1) (slice_set linked child.number true)
   marks_set at j child d x linked n dir its some low up unmarked path m = record {
-    long = long linked child.number ∙ m.long;
+    long = length_set linked child.number true ∙ m.long;
     unnamed = λ k s f. unnamed k s f (which k);
     links = λ k s t. links k s t (which k);
   }
     where
-      one_row : (x y : Ended Row) → Some x ≡ Some y → x ≡ y
-      one_row x y e = cc
-
       dir_is : (job_of (row_of n.above)).path ≡ d
-      dir_is = ap (λ r. (job_of (row_of r)).path) (one_row n.above dir.row (sym n.is ∙ dir.is)) ∙ dir.path_is
-
-      long : (xs : List Bool) (i : ℕ) → length (slice_set xs i true) ≡ length xs
-      long xs i = length_set xs i true
+      dir_is = let row : n.above ≡ dir.row = cc in ap (λ r. (job_of (row_of r)).path) row ∙ dir.path_is
 
       within : child.number < length linked
       within = let same = m.long in omega arith
 
       which : (k : ℕ) → (child.number ≡ k) ⊎ (child.number ≢ k)
-      which k = decide (child.number == k) refl
-        where
-          decide : (b : Bool) → (child.number == k) ≡ b → (child.number ≡ k) ⊎ (child.number ≢ k)
-          decide true e = inl (eqb-true child.number k e)
-          decide false e = inr (λ s. (let t = eq-eqb child.number k s in let h : true ≡ false = sym t ∙ e in cc))
+      which k = elim (eqb_tells child.number k) [ inl e ↦ inl e.1 | inr e ↦ inr e.1 ]
 
       marked : slice_get (slice_set linked child.number true) child.number ≡ Some true
       marked = get_set_same linked child.number true within
@@ -208,29 +166,20 @@ module _ (rows : List (Ended Row)) where
   marks_row at e linked is m = record {
     long = m.long;
     unnamed = λ k s f p i z edge. m.unnamed k s f p i (back p i k edge z) edge;
-    links = λ k s t. (let h = m.links k s t in record {
-      row = h.row;
-      its = h.its;
-      parent = h.parent;
-      place = h.place;
-      lower = h.lower;
-      seen = on h.parent h.place h.seen;
-      edge = h.edge;
-      path = h.path;
-      only = λ p i z edge. h.only p i (back p i k edge z) edge;
-    });
+    links = λ k s t. (
+        let h = m.links k s t in
+        linked_on at (length (children_in (row_of e))) (at + 1) 0 k h (on h.parent h.place h.seen)
+        (λ p i z edge. h.only p i (back p i k edge z) edge)
+        );
   }
     where
       on : (p i : ℕ) → Seen at (length (children_in (row_of e))) p i → Seen (at + 1) 0 p i
       on p i (inl l) = inl (omega arith)
       on p i (inr x) = let u = x.0 in inl (omega arith)
 
-      one_row : (x y : Ended Row) → Some x ≡ Some y → x ≡ y
-      one_row x y e = cc
-
       inside : (p i k : ℕ) → IsEdge rows p i k → p ≡ at → i < length (children_in (row_of e))
       inside p i k edge same =
-          let row : edge.above ≡ e = one_row edge.above e (sym edge.is ∙ ap (slice_get rows) same ∙ is) in
+          let row : edge.above ≡ e = cc in
           slice_get_within (children_in (row_of e)) i edge.child (ap (λ r. slice_get (children_in (row_of r)) i) (sym row) ∙ edge.here)
 
       back : (p i k : ℕ) → IsEdge rows p i k → Seen (at + 1) 0 p i → Seen at (length (children_in (row_of e))) p i
@@ -258,7 +207,7 @@ module _ (rows : List (Ended Row)) where
       → AreLinked rows (length rows) 0 linked → IsLinkedOnce rows k (row_of e)
   links_now k linked e some is t m =
       let h = m.links k some t in
-      let row : h.row ≡ e = one_row h.row e (sym h.its ∙ is) in
+      let row : h.row ≡ e = cc in
       record {
         parent = h.parent;
         at = h.place;
@@ -267,9 +216,6 @@ module _ (rows : List (Ended Row)) where
         path = ap (λ r. (job_of (row_of r)).path) (sym row) ∙ h.path;
         only = λ p i edge. h.only p i (all_seen p i k edge) edge;
       }
-    where
-      one_row : (x y : Ended Row) → Some x ≡ Some y → x ≡ y
-      one_row x y e = cc
 
   -- where all are marked the rows make a tree
   pub all_placed : (linked : List Bool) (e : Ended Row) → slice_get rows 0 ≡ Some e → (job_of (row_of e)).path ≡ []

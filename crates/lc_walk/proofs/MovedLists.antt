@@ -1,8 +1,11 @@
 -- Lists that the elements of a list give, after these change places.
-use Rattle.std.proofs.Common.{◌≡◌, ℕ, zero, suc, ◌+◌, ◌<◌, List, [], ◌∷◌, length, get_or, map, refl, sym, ◌∙◌, ap, subst, arith}
-use Rattle.std.proofs.{Common.{IsPermutation, slice_set, slice_index_or, swap, sum_by}, lemmas.List.{Sums.sum_by-cons, Folds.flat_map-map}}
+use Rattle.std.proofs.lemmas.Grind.{common_steps}
+use Rattle.std.proofs.lemmas.List.{Sums.sum_by-cons, Folds.flat_map-map}
 use Rattle.std.proofs.lemmas.List.Sorted.{IsPermutation-refl, IsPermutation-swap, IsPermutation-keeps, sum_by-IsPermutation}
 use Rattle.std.proofs.lemmas.List.Sorted.{length_permutation}
+use Rattle.std.proofs.lemmas.List.{length-map}
+use Rattle.std.proofs.Common.{◌≡◌, ℕ, zero, suc, ◌+◌, ◌<◌, List, [], ◌∷◌, length, get_or, map, refl, sym, ◌∙◌, ap, subst, arith}
+use Rattle.std.proofs.Common.{IsPermutation, slice_set, swap, sum_by}
 use Rattle.std.specs.List.{flat_map}
 use Rattle.lc_board.proofs.Weights.{weigh, times, only, permuted_lists}
 
@@ -12,22 +15,8 @@ module _ {A B : Type 0} (f : A → B) where
   map_set (x ∷ xs) zero v = refl
   map_set (x ∷ xs) (suc i) v = ap (λ l. f x ∷ l) (map_set xs i v)
 
-  map_index : (xs : List A) (i : ℕ) (d : A) → f (slice_index_or xs i d) ≡ slice_index_or (map f xs) i (f d)
-  map_index [] i d = refl
-  map_index (x ∷ xs) zero d = refl
-  map_index (x ∷ xs) (suc i) d = map_index xs i d
-
   map_swap : (xs : List A) (i j : ℕ) → map f (swap xs i j) ≡ swap (map f xs) i j
-  map_swap [] i j = refl
-  map_swap (d ∷ ys) i j =
-      map_set (slice_set (d ∷ ys) i (slice_index_or (d ∷ ys) j d)) j (slice_index_or (d ∷ ys) i d)
-      ∙ ap (λ l. slice_set l j (f (slice_index_or (d ∷ ys) i d)))
-      (map_set (d ∷ ys) i (slice_index_or (d ∷ ys) j d) ∙ ap (λ v. slice_set (map f (d ∷ ys)) i v) (map_index (d ∷ ys) j d))
-      ∙ ap (λ v. slice_set (slice_set (map f (d ∷ ys)) i (slice_index_or (map f (d ∷ ys)) j (f d))) j v) (map_index (d ∷ ys) i d)
-
-  same_length : (xs : List A) → length (map f xs) ≡ length xs
-  same_length [] = refl
-  same_length (x ∷ xs) = ap suc (same_length xs)
+  map_swap xs i j = grind (arith, common_steps, map_set)
 
 sums : {A : Type 0} (f : A → ℕ) (xs : List A) → weigh f xs ≡ sum_by f xs
 sums f [] = refl
@@ -59,7 +48,7 @@ module _ {A B : Type 0} (f : A → List B) where
 
   step : (d : A) (xs l : List A) (i j : ℕ) → i < length l → j < length l → Picks d xs l → Picks d xs (swap l i j)
   step d xs l i j b c p =
-      let long : length l ≡ length p.at = ap length p.is ∙ same_length (λ k. get_or xs k d) p.at in
+      let long : length l ≡ length p.at = ap length p.is ∙ length-map p.at (λ k. get_or xs k d) in
       record {
         at = swap p.at i j;
         is = ap (λ m. swap m i j) p.is ∙ sym (map_swap (λ k. get_or xs k d) p.at i j);
@@ -72,8 +61,7 @@ module _ {A B : Type 0} (f : A → List B) where
       (step d xs) ys moved
 
   none_left : (ys : List A) → length ys ≡ 0 → ys ≡ []
-  none_left [] e = refl
-  none_left (y ∷ ys) e = absurd (omega arith)
+  none_left ys e = grind (arith, common_steps)
 
   -- what they give is the same, up to the order
   pub lists_moved : (xs ys : List A) → IsPermutation xs ys → IsPermutation (flat_map f xs) (flat_map f ys)

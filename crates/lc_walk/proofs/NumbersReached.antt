@@ -1,4 +1,6 @@
 -- What a walk of a history's tree finds, by the numbers that it reaches.
+use Rattle.std.proofs.Common.{arith}
+use Rattle.std.proofs.lemmas.Grind.{common_steps}
 use Rattle.std.proofs.Common.{◌≡◌, ◌≢◌, ℕ, zero, suc, Bool, true, false, cond, List, [], ◌∷◌, ◌++◌, refl, sym, ◌∙◌, ap, Option, Some}
 use Rattle.std.proofs.{Common.{None, append_assoc, bytes_eq}, Math.Path.fun_ext, lemmas.Grind.flat_map-append}
 use Rattle.std.specs.List.{flat_map, AllByRecursion}
@@ -10,7 +12,8 @@ use Rattle.lc_board.proofs.{Weights.each-map, PostedNumbers.{Known, known}}
 use Rattle.lc_walk.proofs.{Reach.reach, Levels.IsApart}
 use Rattle.lc_level.proofs.WellFormed.{bytes_same}
 
-same_some : {A : Type 0} (x y : A) → Some x ≡ Some y → x ≡ y
+-- of one value there is one
+pub same_some : {A : Type 0} (x y : A) → Some x ≡ Some y → x ≡ y
 same_some x y e = cc
 
 -- equal lists begin with equal elements
@@ -55,15 +58,8 @@ module _ {A X R : Type 0} (found : JobModel → A → List X) (children : JobMod
   below_is k i rec [] (p ∷ ps) u e a = cc
   below_is k i rec (c ∷ cs) [] u e a = cc
   below_is k i rec (c ∷ cs) (p ∷ ps) u e a =
-      let this : p.1 ≡ c.1 = same_head p.1 c.1 (jobs_of ps) (jobs_of cs) e in
-      let one : walk_by found children k c.1 (λ q. trees i (c.0 ∷ q)) ≡ flat_map gives (reach h k p.0) =
-      ap (λ (t : List (List ℕ) → A). walk_by found children k c.1 t) u.0
-      ∙ ap (λ (j : JobModel). walk_by found children k j (trees p.0)) (sym this ∙ sym a.0.0)
-      ∙ rec p.0 a.0.1 in
-      ap (λ (xs : List X). xs ++ walks_below found children (walk_by found children k) (trees i) cs) one
-      ∙ ap (λ (xs : List X). flat_map gives (reach h k p.0) ++ xs)
-      (below_is k i rec cs ps u.1 (same_tail p.1 c.1 (jobs_of ps) (jobs_of cs) e) a.1)
-      ∙ sym (flat_map-append gives (reach h k p.0) (flat_map (λ p. reach h k p.0) ps))
+      let rest : jobs_of ps ≡ jobs_of cs = same_tail p.1 c.1 (jobs_of ps) (jobs_of cs) e in
+      grind (arith, common_steps, same_head, reach, same_tail, flat_map-append, below_is k i rec cs ps u.1 rest a.1)
 
   own : (i : ℕ) → AllByRecursion (λ p. (job p.0 ≡ p.1) × (status h p.0 ≢ Absent)) (posts_under i h)
   own i =
@@ -89,20 +85,14 @@ Finds look [] ps = Unit {0}
 Finds look (c ∷ cs) [] = Unit {0}
 Finds look (c ∷ cs) (p ∷ ps) = (look c.0 ≡ Some p.0) × Finds look cs ps
 
-past : (b : Bool) (x y z : Option ℕ) → b ≡ false → y ≡ z → cond b x y ≡ z
-past true x y z e f = cc
-past false x y z e f = f
-
 hit : (b : Bool) (x y : Option ℕ) → b ≡ true → cond b x y ≡ x
-hit true x y e = refl
-hit false x y e = cc
+hit b x y e = grind (arith, common_steps)
 
 find_more : (k : ChildModel) (ks : List ChildModel) (cs : List (List ℕ × JobModel)) (ps : List (ℕ × JobModel)) →
     AllByRecursion (λ d. bytes_eq d.0 k.name ≡ false) cs → Finds (λ m. child_number m ks) cs ps → Finds (λ m. child_number m (k ∷ ks)) cs ps
 find_more k ks [] ps a f = tt
 find_more k ks (c ∷ cs) [] a f = tt
-find_more k ks (c ∷ cs) (p ∷ ps) a f =
-    (past (bytes_eq c.0 k.name) (Some k.number) (child_number c.0 ks) (Some p.0) a.0 f.0, find_more k ks cs ps a.1 f.1)
+find_more k ks (c ∷ cs) (p ∷ ps) a f = grind (arith, common_steps, find_more k ks cs ps a.1 f.1)
 
 -- names with no two the same are found at their own places
 pub finds : (cs : List (List ℕ × JobModel)) (ps : List (ℕ × JobModel)) → IsApart cs → Finds (λ m. child_number m (named cs ps)) cs ps
@@ -115,12 +105,7 @@ finds (c ∷ cs) (p ∷ ps) a = (
 
 open_child : {A : Type 0} (blank : A) (answers : ℕ → A) (children : ℕ → List ChildModel) (o : Option ℕ) (k : ℕ) → o ≡ Some k →
     (λ (p : List (List ℕ)). elim o [ None ↦ blank | Some d ↦ tree_from blank answers children d p ]) ≡ tree_from blank answers children k
-open_child {A} blank answers children o k e =
-    ap {B = List (List ℕ) → A} (λ (x : Option ℕ) (p : List (List ℕ)). elim x [
-      | None ↦ blank
-      | Some d ↦ tree_from blank answers children
-          d p
-    ]) e
+open_child blank answers children o k e = grind (arith, common_steps)
 
 -- the tree of rows has the trees of the children under each number
 pub under_rows : {A : Type 0} (blank : A) (answers : ℕ → A) (children : ℕ → List ChildModel) (i : ℕ) (cs : List (List ℕ × JobModel))
@@ -145,7 +130,4 @@ pub under_places : {A : Type 0} (t : List (List ℕ) → A) (place : ℕ → Lis
     PlacedUnder place i cs ps → Under (λ k p. t (place k ++ p)) i cs ps
 under_places t place i [] ps f = tt
 under_places t place i (c ∷ cs) [] f = tt
-under_places t place i (c ∷ cs) (p ∷ ps) f = (
-  fun_ext (λ (q : List (List ℕ)). ap t (sym (append_assoc (place i) (c.0 ∷ []) q) ∙ ap (λ (x : List (List ℕ)). x ++ q) (sym f.0))),
-  under_places t place i cs ps f.1,
-)
+under_places t place i (c ∷ cs) (p ∷ ps) f = grind (arith, common_steps, fun_ext, append_assoc, under_places t place i cs ps f.1)

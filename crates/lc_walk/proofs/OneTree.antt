@@ -1,12 +1,12 @@
 -- The rows of a walk whose tree answers as one tree stand where names lead in that tree.
-use Rattle.std.proofs.Common.{◌≡◌, ◌≢◌, ℕ, zero, suc, ◌<◌, Bool, List, [], ◌∷◌, ◌++◌, slice_get, refl, sym, ◌∙◌, ap, subst, Some, inl}
-use Rattle.std.proofs.{Common.{inr, arith}, lemmas.Option.slice_get_within}
+use Rattle.std.proofs.{lemmas.{Grind.common_steps, Option.slice_get_within}, Common.{◌≡◌, ◌≢◌, ℕ, zero, suc, ◌<◌, Bool, List, [], ◌∷◌}}
+use Rattle.std.proofs.Common.{◌++◌, slice_get, refl, sym, ◌∙◌, ap, subst, Some, inl, inr, arith}
 use Rattle.std.specs.List.{AllByRecursion}
 use Rattle.lc_board.specs.{State.{Absent, status}, LegalHistory.posts_under, declared.{event.Event.Event, answers.Ended.Ended}}
 use Rattle.lc_board.proofs.Parents.{IsIn, HasParent, parent, posted_above}
 use Rattle.lc_tree.specs.Paths.{names_of_path}
 use Rattle.lc_level.specs.{Answers.{Answers, Tree}, Job.JobModel, Level.{level, child_job}, Filters.FiltersModel}
-use Rattle.lc_walk.specs.{Found.{children_of, children_at}, FoundAt.{WalksInto, LeadsTo}, Lawful.{Asked, jobs_of}, Rows.{row_of, job_of}}
+use Rattle.lc_walk.specs.{Found.children_at, FoundAt.{WalksInto, LeadsTo}, Lawful.{Asked, jobs_of}, Rows.{row_of, job_of}}
 use Rattle.lc_walk.specs.{BoardAnswers.IsOneAnswer, ClosedWalks.{Walked, AreWhole}, declared.row.Row.Row}
 use Rattle.lc_walk.proofs.{NumbersReached.{same_head, same_tail}, Elements.In, FoundByPlace.child_by_level, WalkOfRows.{row_here, job_or}}
 use Rattle.lc_walk.proofs.{WalkOfRows.{job_at, inside, there, job_at_top, own_jobs, fits}, Levels.IsChild, Places.names_of_path-path_in}
@@ -15,10 +15,9 @@ use Rattle.lc_walk.proofs.{WalkOfRows.{job_at, inside, there, job_at_top, own_jo
 pub leads_on : (filters : FiltersModel) (place : List (List ℕ)) (j k inside : JobModel) (name : List ℕ) (t : Tree)
     → LeadsTo filters j t place k → WalksInto filters k (t place) name inside
     → LeadsTo filters j t (place ++ name ∷ []) (child_job inside name)
-leads_on filters [] j k inside name t e l =
-    (inside, subst (λ (i : JobModel). WalksInto filters i (t []) name inside) (sym e) l, refl)
+leads_on filters [] j k inside name t e l = grind (arith, common_steps)
 leads_on filters (n ∷ place) j k inside name t (i, l, more) leaves =
-    (i, l, leads_on filters place (child_job i n) k inside name (λ p. t (n ∷ p)) more leaves)
+    grind (arith, common_steps, leads_on filters place (child_job i n) k inside name (λ p. t (n ∷ p)) more leaves)
 
 -- a child directory that was posted at this number
 record PostedChild (d : List ℕ) (cs : List (List ℕ × JobModel)) (job : JobModel) : Type 0 where
@@ -31,19 +30,10 @@ posted_as : (d : List ℕ) (job : ℕ → JobModel) (cs : List (List ℕ × JobM
     → jobs_of ps ≡ jobs_of cs → AllByRecursion (IsChild d) cs → AllByRecursion (λ p. job p.0 ≡ p.1) ps → IsIn k ps
     → PostedChild d cs (job k)
 posted_as d job cs [] k e a b i = absurd i
-posted_as d job [] (p ∷ ps) k e a b i = absurd (none e)
-  where
-    none : p.1 ∷ jobs_of ps ≡ [] → ⊥
-    none e = cc
-posted_as d job (c ∷ cs) (p ∷ ps) k e a b (inl same) = record {
-  child = c;
-  among = inl refl;
-  good = a.0;
-  job_is = sym (ap job (sym same) ∙ b.0 ∙ same_head p.1 c.1 (jobs_of ps) (jobs_of cs) e);
-}
+posted_as d job [] (p ∷ ps) k e a b i = absurd (cc e)
+posted_as d job (c ∷ cs) (p ∷ ps) k e a b (inl same) = grind (arith, common_steps, same_head, same_tail)
 posted_as d job (c ∷ cs) (p ∷ ps) k e a b (inr i) =
-    let r = posted_as d job cs ps k (same_tail p.1 c.1 (jobs_of ps) (jobs_of cs) e) a.1 b.1 i in
-    record { child = r.child; among = inr r.among; good = r.good; job_is = r.job_is }
+    grind (arith, common_steps, same_head, same_tail, posted_as d job cs ps k (same_tail p.1 c.1 (jobs_of ps) (jobs_of cs) e) a.1 b.1 i)
 
 module _ (ask : Asked) (full : Bool) (capacity workers : ℕ) (top : JobModel) (h : List (Event JobModel Row)) (rows : List (Ended Row))
     (answers : ℕ → Answers) (walked : Walked ask full capacity workers top h rows answers) (whole : AreWhole rows)
@@ -73,12 +63,9 @@ module _ (ask : Asked) (full : Bool) (capacity workers : ℕ) (top : JobModel) (
       let f = fits ask full capacity workers top h rows answers walked whole p a in
       let c = posted_as (job p).path job (children_at ask.filters (job p) (answers p)) (posts_under p h) k f.jobs f.named_so
       (own_jobs ask full capacity workers top h rows answers walked p) i in
-      let among : In c.child (children_at ask.filters (job p) (t (place p))) =
-      subst (λ l. In c.child (children_of l)) (same_level p a led) c.among in
+      let among : In c.child (children_at ask.filters (job p) (t (place p))) = grind (arith, common_steps, same_level) in
       let left = child_by_level ask.filters (job p) (t (place p)) c.child among in
-      let there : place k ≡ place p ++ c.child.0 ∷ [] =
-      ap (λ (j : JobModel). names_of_path j.path) (sym c.job_is) ∙ ap names_of_path c.good.1
-      ∙ names_of_path-path_in (job p).path c.child.0 c.good.0 in
+      let there : place k ≡ place p ++ c.child.0 ∷ [] = grind (arith, common_steps, names_of_path-path_in) in
       subst (λ x. LeadsTo ask.filters top t x (job k)) (sym there)
       (subst (LeadsTo ask.filters top t (place p ++ c.child.0 ∷ [])) (sym left.2 ∙ c.job_is)
       (leads_on ask.filters (place p) top (job p) left.0 c.child.0 t led left.1))

@@ -1,9 +1,12 @@
 -- What a walk of some paths finds is the part of the whole walk at, below and above them.
-use Rattle.std.proofs.Common.{◌≡◌, ◌≢◌, ℕ, true, List, [], ◌∷◌, length, refl, sym, ◌∙◌, ap, subst, inl, inr, ◌⊎◌, Some, None}
+use Rattle.std.proofs.Common.{rules}
+use Rattle.std.proofs.Common.{arith}
+use Rattle.std.proofs.lemmas.Grind.{common_steps}
+use Rattle.std.proofs.Common.{◌≡◌, ◌≢◌, ℕ, true, List, [], ◌∷◌, length, refl, sym, ◌∙◌, ap, subst, inl, inr, ◌⊎◌, Some, None, Ok}
 use Rattle.std.specs.List.{Contains, AllByRecursion}
 use Rattle.lc_glob.specs.Path.{path_in, is_good_path}
-use Rattle.lc_level.specs.{Answers.{Item, directory_item, entry_of, Answers, Tree}, Job.JobModel, Level.{FileLineModel, SkippedLineModel}}
-use Rattle.lc_level.specs.{Level.{Fate, counted, failed, skipped, fate_of, child_job}, Narrowing.{part_of, takes_part}}
+use Rattle.lc_level.specs.{Answers.{Item, directory_item, entry_of, Answers, Tree, name_of}, Job.JobModel, Level.FileLineModel}
+use Rattle.lc_level.specs.{Level.{SkippedLineModel, Fate, counted, failed, skipped, fate_of, child_job}, Narrowing.{part_of, takes_part}}
 use Rattle.lc_level.specs.{Filters.{FiltersModel, narrowed}, WellFormed.IsWellFormed, declared.fault_word.FaultWord.FaultWord}
 use Rattle.lc_level.specs.declared.fault_word.FaultWord.TheVariants.{Absent}
 use Rattle.lc_level.proofs.{AskedPaths.all_take_part, WellFormed.IsGoodName}
@@ -39,14 +42,19 @@ module _ (s : FiltersModel) (only : List (List ℕ)) where
       → In item items × (takes_part (Some only) d (entry_of item) ≡ true)
   in_part d items item c = in_filter (λ i. takes_part (Some only) d (entry_of i)) item items (is_in item (part_of (Some only) d items) c)
 
-  in_part_of : (d : List ℕ) (items : List Item) (item : Item) → In item items → takes_part (Some only) d (entry_of item) ≡ true
-      → Contains (part_of (Some only) d items) item
-  in_part_of d items item i e = contains item (part_of (Some only) d items) (of_filter (λ x. takes_part (Some only) d (entry_of x)) item items i e)
+  item_good : (j : JobModel) (a : Answers) (items : List Item) (item : Item) → IsWellFormed a → a.here ≡ Ok items
+      → Contains (part_of None j.path items) item → IsGoodName (name_of item)
+  item_good j a items item well_formed here c =
+      spread_good item items (well_formed_items a well_formed items here) (in_whole j.path items item c)
+
+  -- an entry of the directory is one of those that take part, if the paths select it
+  item_takes : (j : JobModel) (a : Answers) (items : List Item) (item : Item) → IsWellFormed a → a.here ≡ Ok items
+      → Contains (part_of None j.path items) item → EntryTakesPart only (entry_of item).kind (path_in j.path (name_of item))
+      → Contains (part_of (Some only) j.path items) item
+  item_takes j a items item well_formed here c takes = search (rules, arith, contains, of_filter, in_whole, of_part, item_good)
 
   entry_good : (j : JobModel) (a : Answers) (n : List ℕ) (fate : Fate) → IsWellFormed a → HasEntry whole j a n fate → IsGoodName n
-  entry_good j a n fate well_formed h =
-      subst IsGoodName h.named
-      (spread_good h.item h.items (well_formed_items a well_formed h.items h.listed.here) (in_whole j.path h.items h.item h.has))
+  entry_good j a n fate well_formed h = subst IsGoodName h.named (item_good j a h.items h.item well_formed h.listed.here h.has)
 
   part_entry : (j : JobModel) (a : Answers) (n : List ℕ) (fate : Fate) → IsWellFormed a → HasEntry whole j a n fate
       → ((kind : Kind) → IsFateOf fate kind → EntryTakesPart only kind (path_in j.path n)) → HasEntry part j a n fate
@@ -55,35 +63,16 @@ module _ (s : FiltersModel) (only : List (List ℕ)) where
     inside = h.inside;
     listed = h.listed;
     item = h.item;
-    has = in_part_of j.path h.items h.item here
-        (of_part only j.path (entry_of h.item) (spread_good h.item h.items (well_formed_items a well_formed h.items h.listed.here) here)
+    has = item_takes j a h.items h.item well_formed h.listed.here h.has
         (subst (λ m. EntryTakesPart only (entry_of h.item).kind (path_in j.path m)) (sym h.named)
-        (takes (entry_of h.item).kind (subst (λ f. IsFateOf f (entry_of h.item).kind) h.fate_is (fits whole h.inside h.item)))));
+        (takes (entry_of h.item).kind (subst (λ f. IsFateOf f (entry_of h.item).kind) h.fate_is (fits whole h.inside h.item))));
     named = h.named;
     fate_is = same_fate s (Some only) None h.inside h.item ∙ h.fate_is;
   }
-    where
-      here : In h.item h.items
-      here = in_whole j.path h.items h.item h.has
 
   leaves_part : (j : JobModel) (a : Answers) (n : List ℕ) (inside : JobModel) → IsWellFormed a → WalksInto whole j a n inside
       → EntryTakesPart only Dir (path_in j.path n) → WalksInto part j a n inside
-  leaves_part j a n inside well_formed l takes = record {
-    items = l.items;
-    listed = l.listed;
-    has = in_part_of j.path l.items (directory_item n) here
-        (of_part only j.path (entry_of (directory_item n))
-        (spread_good (directory_item n) l.items (well_formed_items a well_formed l.items l.listed.here) here) takes);
-    taken = l.taken;
-  }
-    where
-      here : In (directory_item n) l.items
-      here = in_whole j.path l.items (directory_item n) l.has
-
-  child_good : (j : JobModel) (a : Answers) (n : List ℕ) (inside : JobModel) → IsWellFormed a → WalksInto whole j a n inside → IsGoodName n
-  child_good j a n inside well_formed l =
-      spread_good (directory_item n) l.items (well_formed_items a well_formed l.items l.listed.here)
-      (in_whole j.path l.items (directory_item n) l.has)
+  leaves_part j a n inside well_formed l takes = search (rules, arith, item_takes)
 
   -- ---- the directories on the way
 
@@ -102,7 +91,8 @@ module _ (s : FiltersModel) (only : List (List ℕ)) where
   leads_part [] j k t well_formed e on = e
   leads_part (n ∷ place) j k t well_formed (inside, l, more) on =
       let same : inside.path ≡ j.path = inside_path j inside (t []) l.items l.listed in
-      let there : path_in inside.path n ≢ [] = name_some inside.path n (child_good j (t []) n inside (well_formed [] j refl) l) in
+      let good = item_good j (t []) l.items (directory_item n) (well_formed [] j refl) l.listed.here l.has in
+      let there : path_in inside.path n ≢ [] = name_some inside.path n good in
       let takes : EntryTakesPart only Dir (path_in inside.path n) =
       directory_takes only (path_in inside.path n)
       (on_way_up only k.path (path_in inside.path n) there (reach place (child_job inside n) k (λ p. t (n ∷ p)) more there) on) in (
@@ -139,8 +129,7 @@ module _ (s : FiltersModel) (only : List (List ℕ)) where
         let same : inside.path ≡ j.path = inside_path j inside (t []) l.items l.listed in
         let i = in_part j.path l.items (directory_item n) l.has in
         let takes : EntryTakesPart only Dir (path_in j.path n) = by_part only j.path (entry_of (directory_item n)) good i.1 in
-        let child : IsOnWay only (path_in inside.path n) =
-        subst (λ p. IsOnWay only (path_in p n)) (sym same) (takes_on_way only Dir (path_in j.path n) takes) in
+        let child : IsOnWay only (path_in inside.path n) = grind (arith, common_steps, takes_on_way) in
         let rest = leads_whole place (child_job inside n) k (λ p. t (n ∷ p)) more child in (
           (
             inside,
@@ -158,18 +147,38 @@ module _ (s : FiltersModel) (only : List (List ℕ)) where
     -- ---- the walk
 
     module _ (depth : ℕ) (top : JobModel) (t : Tree) (at_top : top.path ≡ []) (well_formed : HasListings whole top t) where
-      in_whole_walk : (x : Found) → IsFoundIn whole depth top t x → Contains (whole_walk s only depth top t) x
-      in_whole_walk x r = (found_law whole depth top t x).1 r
+      -- what a directory on the way gives is in the walk of the whole tree
+      in_whole_walk : (x : Found) {y : Found} (r : IsFoundIn part depth top t y) → Gives whole r.job (t r.place) x
+          → Contains (whole_walk s only depth top t) x
+      in_whole_walk x r gives =
+          let l = leads_whole r.place top r.job t r.leads (inl at_top) in
+          (found_law whole depth top t x).1 (record { place = r.place; shallow = r.shallow; job = r.job; leads = l.0; gives = gives })
 
-      in_part_walk : (x : Found) → IsFoundIn part depth top t x → Contains (part_walk s only depth top t) x
-      in_part_walk x r = (found_law part depth top t x).1 r
+      on_way : {y : Found} (r : IsFoundIn part depth top t y) → IsOnWay only r.job.path
+      on_way r = (leads_whole r.place top r.job t r.leads (inl at_top)).1
+
+      -- and in that of the part
+      in_part_walk : (x : Found) {y : Found} (r : IsFoundIn whole depth top t y) → IsOnWay only r.job.path
+          → Gives part r.job (t r.place) x → Contains (part_walk s only depth top t) x
+      in_part_walk x r on gives =
+          let l = leads_part r.place top r.job t well_formed r.leads on in
+          (found_law part depth top t x).1 (record { place = r.place; shallow = r.shallow; job = r.job; leads = l; gives = gives })
+
+      -- so is an entry that the paths select
+      by_entry : (x : Found) (r : IsFoundIn whole depth top t x) (n : List ℕ) (fate : Fate) (kind : Kind)
+          → HasEntry whole r.job (t r.place) n fate → EntryTakesPart only kind (path_in r.job.path n)
+          → ((k : Kind) → IsFateOf fate k → EntryTakesPart only k (path_in r.job.path n))
+          → (HasEntry part r.job (t r.place) n fate → Gives part r.job (t r.place) x) → Contains (part_walk s only depth top t) x
+      by_entry x r n fate kind h here takes gives =
+          let good = well_formed r.place r.job r.leads in
+          in_part_walk x r (on_way_of_child only r.job.path n kind (entry_good r.job (t r.place) n fate good h) here)
+          (gives (part_entry r.job (t r.place) n fate good h takes))
 
       file : (directory : List ℕ) (f : FileLineModel) → IsFoundIn part depth top t (found_file directory f) →
           Contains (whole_walk s only depth top t) (found_file directory f) × IsWithin only (path_in directory f.path)
       file directory f r =
-          let l = leads_whole r.place top r.job t r.leads (inl at_top) in
           let w = whole_entry r.job (t r.place) f.path (counted f) r.gives.1 in (
-            in_whole_walk _ (record { place = r.place; shallow = r.shallow; job = r.job; leads = l.0; gives = (r.gives.0, w.0) }),
+            in_whole_walk _ r (r.gives.0, w.0),
             within_file only w.1 (path_in directory f.path) w.2
                 (subst (λ d. EntryTakesPart only w.1 (path_in d f.path)) (sym r.gives.0) w.3),
           )
@@ -178,24 +187,13 @@ module _ (s : FiltersModel) (only : List (List ℕ)) where
           IsWithin only (path_in directory f.path) → Contains (part_walk s only depth top t) (found_file directory f)
       has_file directory f r within =
           let here : IsWithin only (path_in r.job.path f.path) = subst (λ d. IsWithin only (path_in d f.path)) r.gives.0 within in
-          let name = entry_good r.job (t r.place) f.path (counted f) (well_formed r.place r.job r.leads) r.gives.1 in
-          in_part_walk _ (record {
-            place = r.place;
-            shallow = r.shallow;
-            job = r.job;
-            leads = leads_part r.place top r.job t well_formed r.leads (on_way_of_child only r.job.path f.path File name (inl here));
-            gives = (
-              r.gives.0,
-              part_entry r.job (t r.place) f.path (counted f) (well_formed r.place r.job r.leads) r.gives.1 (λ kind is. inl here),
-            );
-          })
+          by_entry _ r f.path (counted f) File r.gives.1 (inl here) (λ kind is. inl here) (λ h. (r.gives.0, h))
 
       left_out : (directory : List ℕ) (l : SkippedLineModel) → IsFoundIn part depth top t (found_skipped directory l) →
           Contains (whole_walk s only depth top t) (found_skipped directory l) × EntryTakesPart only l.kind (path_in directory l.path)
       left_out directory l r =
-          let leads = leads_whole r.place top r.job t r.leads (inl at_top) in
           let w = whole_entry r.job (t r.place) l.path (skipped l.kind l.reason) r.gives.1 in (
-            in_whole_walk _ (record { place = r.place; shallow = r.shallow; job = r.job; leads = leads.0; gives = (r.gives.0, w.0) }),
+            in_whole_walk _ r (r.gives.0, w.0),
             subst (λ d. EntryTakesPart only l.kind (path_in d l.path)) (sym r.gives.0)
                 (subst (λ k. EntryTakesPart only k (path_in r.job.path l.path)) w.2 w.3),
           )
@@ -203,37 +201,19 @@ module _ (s : FiltersModel) (only : List (List ℕ)) where
       has_left_out : (directory : List ℕ) (l : SkippedLineModel) → IsFoundIn whole depth top t (found_skipped directory l) →
           EntryTakesPart only l.kind (path_in directory l.path) → Contains (part_walk s only depth top t) (found_skipped directory l)
       has_left_out directory l r takes =
-          let here : EntryTakesPart only l.kind (path_in r.job.path l.path) =
-          subst (λ d. EntryTakesPart only l.kind (path_in d l.path)) r.gives.0 takes in
-          let name = entry_good r.job (t r.place) l.path (skipped l.kind l.reason) (well_formed r.place r.job r.leads) r.gives.1 in
-          in_part_walk _ (record {
-            place = r.place;
-            shallow = r.shallow;
-            job = r.job;
-            leads = leads_part r.place top r.job t well_formed r.leads (on_way_of_child only r.job.path l.path l.kind name here);
-            gives = (
-              r.gives.0,
-              part_entry r.job (t r.place) l.path (skipped l.kind l.reason) (well_formed r.place r.job r.leads) r.gives.1
-                  (λ kind is. subst (λ k. EntryTakesPart only k (path_in r.job.path l.path)) (sym is) here),
-            );
-          })
+          let here : EntryTakesPart only l.kind (path_in r.job.path l.path) = grind (arith, common_steps) in
+          by_entry _ r l.path (skipped l.kind l.reason) l.kind r.gives.1 here
+          (λ kind is. subst (λ k. EntryTakesPart only k (path_in r.job.path l.path)) (sym is) here) (λ h. (r.gives.0, h))
 
       directory : (path : List ℕ) (entries : ℕ) → IsFoundIn part depth top t (found_directory path entries) →
           ListsPath (whole_walk s only depth top t) path × IsOnWay only path
       directory path entries r =
-          let l = leads_whole r.place top r.job t r.leads (inl at_top) in
           let h = r.gives.1 in (
             (
               length (part_of None r.job.path h.items),
-              in_whole_walk _ (record {
-                place = r.place;
-                shallow = r.shallow;
-                job = r.job;
-                leads = l.0;
-                gives = (r.gives.0, record { items = h.items; inside = h.inside; listed = h.listed; many = refl });
-              }),
+              in_whole_walk _ r (r.gives.0, record { items = h.items; inside = h.inside; listed = h.listed; many = refl }),
             ),
-            subst (IsOnWay only) (sym r.gives.0) l.1,
+            subst (IsOnWay only) (sym r.gives.0) (on_way r),
           )
 
       has_directory : (path : List ℕ) (entries : ℕ) → IsFoundIn whole depth top t (found_directory path entries) → IsOnWay only path →
@@ -241,13 +221,8 @@ module _ (s : FiltersModel) (only : List (List ℕ)) where
       has_directory path entries r on =
           let h = r.gives.1 in (
             length (part_of (Some only) r.job.path h.items),
-            in_part_walk _ (record {
-              place = r.place;
-              shallow = r.shallow;
-              job = r.job;
-              leads = leads_part r.place top r.job t well_formed r.leads (subst (IsOnWay only) r.gives.0 on);
-              gives = (r.gives.0, record { items = h.items; inside = h.inside; listed = h.listed; many = refl });
-            }),
+            in_part_walk _ r (subst (IsOnWay only) r.gives.0 on)
+                (r.gives.0, record { items = h.items; inside = h.inside; listed = h.listed; many = refl }),
           )
 
       abbrev Faults : List ℕ → FaultWord → Type 0
@@ -260,15 +235,13 @@ module _ (s : FiltersModel) (only : List (List ℕ)) where
           let l = leads_whole r.place top r.job t r.leads (inl at_top) in
           let is = same_fault s (Some only) None r.job (t r.place) path word e in
           inl (
-            in_whole_walk _ (record { place = r.place; shallow = r.shallow; job = r.job; leads = l.0; gives = inl is }),
+            in_whole_walk _ r (inl is),
             inr (record { place = r.place; shallow = r.shallow; job = r.job; leads = l.0; on_way = l.1; fault = is }),
           )
       fault path word r (inr (inl (n, e, h))) =
-          let l = leads_whole r.place top r.job t r.leads (inl at_top) in
           let w = whole_entry r.job (t r.place) n (failed word) h in
           inl (
-            in_whole_walk _
-                (record { place = r.place; shallow = r.shallow; job = r.job; leads = l.0; gives = inr (inl (n, e, w.0)) }),
+            in_whole_walk _ r (inr (inl (n, e, w.0))),
             inl (within_file only w.1 path w.2 (subst (EntryTakesPart only w.1) (sym e) w.3)),
           )
       fault path word r (inr (inr (rest, e, is, h))) =
@@ -284,17 +257,6 @@ module _ (s : FiltersModel) (only : List (List ℕ)) where
           asked (x ∷ xs) a (inl same) = subst (λ y. In (path_in r.job.path y) only) same a.0.0
           asked (x ∷ xs) a (inr i) = asked xs a.1 i
 
-      fault_on_way : (path : List ℕ) (word : FaultWord) → IsFaultOnWay s only depth top t path word →
-          Contains (part_walk s only depth top t) (found_fault path word)
-      fault_on_way path word f =
-          in_part_walk _ (record {
-            place = f.place;
-            shallow = f.shallow;
-            job = f.job;
-            leads = leads_part f.place top f.job t well_formed f.leads f.on_way;
-            gives = inl (same_fault s None (Some only) f.job (t f.place) path word f.fault);
-          })
-
       place_on_way : (d path : List ℕ) → IsOwnPlace d path → IsWithin only path → IsOnWay only d
       place_on_way d path (inl e) within = inr (inl (subst (IsWithin only) e within))
       place_on_way d path (inr (inl (n, name, e))) within = on_way_of_child only d n File name (inl (subst (IsWithin only) e within))
@@ -303,59 +265,44 @@ module _ (s : FiltersModel) (only : List (List ℕ)) where
       has_fault : (path : List ℕ) (word : FaultWord) (r : IsFoundIn whole depth top t (found_fault path word)) →
           Gives whole r.job (t r.place) (found_fault path word) → Faults path word →
           Contains (part_walk s only depth top t) (found_fault path word)
-      has_fault path word r g (inr f) = fault_on_way path word f
-      has_fault path word r (inl e) (inl within) =
-          fault_on_way path word (record {
-            place = r.place;
-            shallow = r.shallow;
-            job = r.job;
-            leads = r.leads;
-            on_way = place_on_way r.job.path path (fault_at whole r.job (t r.place) path word e) within;
-            fault = e;
+      has_fault path word r g (inr f) =
+          (found_law part depth top t (found_fault path word)).1 (record {
+            place = f.place;
+            shallow = f.shallow;
+            job = f.job;
+            leads = leads_part f.place top f.job t well_formed f.leads f.on_way;
+            gives = inl (same_fault s None (Some only) f.job (t f.place) path word f.fault);
           })
+      has_fault path word r (inl e) (inl within) =
+          in_part_walk _ r (place_on_way r.job.path path (fault_at whole r.job (t r.place) path word e) within)
+          (inl (same_fault s None (Some only) r.job (t r.place) path word e))
       has_fault path word r (inr (inl (n, e, h))) (inl within) =
           let here : IsWithin only (path_in r.job.path n) = subst (IsWithin only) e within in
-          let name = entry_good r.job (t r.place) n (failed word) (well_formed r.place r.job r.leads) h in
-          in_part_walk _ (record {
-            place = r.place;
-            shallow = r.shallow;
-            job = r.job;
-            leads = leads_part r.place top r.job t well_formed r.leads (on_way_of_child only r.job.path n File name (inl here));
-            gives = inr (inl (
-              n,
-              e,
-              part_entry r.job (t r.place) n (failed word) (well_formed r.place r.job r.leads) h (λ kind is. inl here),
-            ));
-          })
+          by_entry _ r n (failed word) File h (inl here) (λ kind is. inl here) (λ g. inr (inl (n, e, g)))
       has_fault path word r (inr (inr (rest, e, is, h))) (inl within) = absurd (is_in rest [] h.absent)
 
--- so a walk of some paths finds of the whole
-of_one_tree : (s : FiltersModel) (only : List (List ℕ)) → AllByRecursion (λ path. is_good_path path ≡ true) only →
-    (depth : ℕ) (top : JobModel) (t : Tree) → top.path ≡ [] → HasListings (narrowed s None) top t →
-    IsPartOfWalk s only depth top t (part_walk s only depth top t)
-of_one_tree s only good depth top t at_top well_formed =
-    record {
-      file = λ d f c. file s only good depth top t at_top well_formed d f ((found_law (narrowed s (Some only)) depth top t _).0 c);
-      has_file = λ d f c. has_file s only good depth top t at_top well_formed d f ((found_law (narrowed s None) depth top t _).0 c);
-      skipped = λ d l c. left_out s only good depth top t at_top well_formed d l ((found_law (narrowed s (Some only)) depth top t _).0 c);
-      has_skipped = λ d l c. has_left_out s only good depth top t at_top well_formed d l
-          ((found_law (narrowed s None) depth top t _).0 c);
-      directory = λ p c. directory s only good depth top t at_top well_formed p c.0
-          ((found_law (narrowed s (Some only)) depth top t _).0 c.1);
-      has_directory = λ p c. has_directory s only good depth top t at_top well_formed p c.0
-          ((found_law (narrowed s None) depth top t _).0 c.1);
-      fault = λ p w c.
-          let r = (found_law (narrowed s (Some only)) depth top t (found_fault p w)).0 c in
-          fault s only good depth top t at_top well_formed p w r r.gives;
-      has_fault = λ p w c.
-          let r = (found_law (narrowed s None) depth top t (found_fault p w)).0 c in
-          has_fault s only good depth top t at_top well_formed p w r r.gives;
-    }
+      found_in_part : (x : Found) → Contains (part_walk s only depth top t) x → IsFoundIn part depth top t x
+      found_in_part x c = (found_law part depth top t x).0 c
+
+      found_in_whole : (x : Found) → Contains (whole_walk s only depth top t) x → IsFoundIn whole depth top t x
+      found_in_whole x c = (found_law whole depth top t x).0 c
+
+      -- so a walk of some paths finds of the whole
+      of_one_tree : IsPartOfWalk s only depth top t (part_walk s only depth top t)
+      of_one_tree = record {
+        file = λ d f c. file d f (found_in_part _ c);
+        has_file = λ d f c. has_file d f (found_in_whole _ c);
+        skipped = λ d l c. left_out d l (found_in_part _ c);
+        has_skipped = λ d l c. has_left_out d l (found_in_whole _ c);
+        directory = λ p c. directory p c.0 (found_in_part _ c.1);
+        has_directory = λ p c. has_directory p c.0 (found_in_whole _ c.1);
+        fault = λ p w c. (let r = found_in_part (found_fault p w) c in fault p w r r.gives);
+        has_fault = λ p w c. (let r = found_in_whole (found_fault p w) c in has_fault p w r r.gives);
+      }
 
 -- where each tree has listings
 pub part_law : PartOfWalkLaw
-part_law s only good depth top t at_top well_formed =
-    of_one_tree s only good depth top t at_top (λ place k leads. well_formed place)
+part_law = grind (arith, common_steps, of_one_tree)
 
 -- and of two walks whose directories answer alike
 pub two_walks_law : TwoWalksLaw

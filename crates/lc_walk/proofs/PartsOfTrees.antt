@@ -1,4 +1,6 @@
 -- Which entries and directories take part, by their paths.
+use Rattle.std.proofs.Common.{arith}
+use Rattle.std.proofs.lemmas.Grind.{common_steps}
 use Rattle.std.proofs.Common.{◌≡◌, ◌≢◌, ℕ, Bool, true, false, ◌&&◌, ◌||◌, List, [], ◌∷◌, ◌++◌, refl, sym, ◌∙◌, ap, inl, inr, ◌⊎◌, Option}
 use Rattle.std.proofs.{Common.{Some, None, append_assoc, bytes_eq}, lemmas.Bool.{and_from, and_parts, or_cases, or_left, or_right}}
 use Rattle.std.specs.{List.{Contains, list_any, AllByRecursion}, Option.{is_none, is_some}}
@@ -89,17 +91,10 @@ module _ (only : List (List ℕ)) (d : List ℕ) (e : EntryModel) where
   -- an entry that takes part is within, or a directory above
   pub by_part : AllByRecursion (λ path. is_good_path path ≡ true) only → takes_part (Some only) d e ≡ true
       → EntryTakesPart only e.kind (path_in d e.name)
-  by_part good takes = at (or_cases (is_whole (Some only) d) _ takes)
-    where
-      at : (is_whole (Some only) d ≡ true) ⊎ (list_any (leads_to e) (rests (Some only) d) ≡ true) → EntryTakesPart only e.kind (path_in d e.name)
-      at (inl whole) = inl (by_whole good whole)
-      at (inr leads) = by_rest leads
+  by_part good takes = grind (arith, common_steps, or_cases, by_whole, by_rest)
 
   led : (q rest : List ℕ) → Contains only q → rest_from d q ≡ Some rest → leads_to e rest ≡ true → takes_part (Some only) d e ≡ true
-  led q rest has is leads =
-      or_right (is_whole (Some only) d) _
-      (leads_seen ∙ of_any (λ path. passes (leads_to e) (rest_from d path)) only q (is_in q only has)
-      (ap (passes (leads_to e)) is ∙ leads))
+  led q rest has is leads = grind (arith, common_steps, or_right, leads_seen, of_any, passes, is_in)
 
   -- and each such entry takes part
   pub of_part : IsGoodName e.name → EntryTakesPart only e.kind (path_in d e.name) → takes_part (Some only) d e ≡ true

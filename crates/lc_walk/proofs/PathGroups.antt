@@ -1,5 +1,6 @@
 -- Groups of paths of a directory, each at or below its own name.
-use Rattle.std.proofs.{Common.{◌≡◌, ◌≢◌, ℕ, List, [], ◌∷◌, ◌++◌, map, sym, ◌∙◌, ap, append-nil}, lemmas.List.append_cancel_left}
+use Rattle.std.proofs.{Common.{arith, ◌≡◌, ◌≢◌, ℕ, List, [], ◌∷◌, ◌++◌, map, ◌∙◌, ap, append-nil}, lemmas.Grind.common_steps}
+use Rattle.std.proofs.lemmas.List.{append_cancel_left}
 use Rattle.std.specs.List.{flat_map, AllByRecursion}
 use Rattle.lc_tree.specs.Paths.{names_of_path}
 use Rattle.lc_board.proofs.Weights.{each-map, each-append}
@@ -12,12 +13,8 @@ Below d x = (rest : List (List ℕ)) × (names_of_path x ≡ names_of_path d ++ 
 abbrev pub Under : List ℕ → List ℕ → List ℕ → Type 0
 Under d n x = (rest : List (List ℕ)) × (names_of_path x ≡ names_of_path d ++ n ∷ rest)
 
-head_is : (m n : List ℕ) (xs ys : List (List ℕ)) → m ∷ xs ≡ n ∷ ys → m ≡ n
-head_is m n xs ys e = cc
-
 apart_under : (d m n x y : List ℕ) → Under d m x → Under d n y → m ≢ n → x ≢ y
-apart_under d m n x y u v a e =
-    a (head_is m n u.0 v.0 (append_cancel_left (names_of_path d) (m ∷ u.0) (n ∷ v.0) (sym u.1 ∙ ap names_of_path e ∙ v.1)))
+apart_under d m n x y u v a = grind (arith, common_steps, append_cancel_left)
 
 -- what stands below a directory is not the directory
 apart_above : (d n x : List ℕ) → Under d n x → d ≢ x
@@ -52,9 +49,7 @@ groups_distinct d (g ∷ gs) a b =
 -- all of them stand below the directory
 pub groups_below : (d : List ℕ) (gs : List Group) → AllByRecursion (IsGroup d) gs → AllByRecursion (Below d) (flat_map (λ g. g.1) gs)
 groups_below d [] a = tt
-groups_below d (g ∷ gs) a =
-    each-append (Below d) g.1 (flat_map (λ h. h.1) gs) (each-map (Under d g.0) (Below d) (λ x u. (g.0 ∷ u.0, u.1)) g.1 a.0.0)
-    (groups_below d gs a.1)
+groups_below d (g ∷ gs) a = grind (arith, common_steps, each-append, each-map, groups_below d gs a.1)
 
 -- and none is the directory's
 pub groups_above : (d : List ℕ) (gs : List Group) → AllByRecursion (IsGroup d) gs → AllByRecursion (λ x. d ≢ x) (flat_map (λ g. g.1) gs)

@@ -1,15 +1,16 @@
 -- No path stands twice in the lines of a report.
-use Rattle.std.proofs.Common.{◌≡◌, ◌≢◌, ℕ, Bool, true, false, cond, List, [], ◌∷◌, ◌++◌, map, refl, sym, ◌∙◌, ap, subst, IsPermutation}
-use Rattle.std.proofs.lemmas.{Cmp.{nat_list_cmp_total, eq_by_cmp_equiv}, List.Sorted.{IsPermutation-append, IsPermutation-map}}
+use Rattle.std.proofs.Common.{arith, rules, ◌≡◌, ◌≢◌, ℕ, Bool, true, false, cond, List, [], ◌∷◌, ◌++◌, map, refl, sym, ◌∙◌, ap, subst}
+use Rattle.std.proofs.{Common.IsPermutation, lemmas.{Grind.common_steps, Cmp.{nat_list_cmp_total, eq_by_cmp_equiv}}}
+use Rattle.std.proofs.lemmas.List.Sorted.{IsPermutation-append, IsPermutation-map}
 use Rattle.std.proofs.lemmas.Map.{Keys.IsDistinct-IsPermutation, Text.is_eq-slice_cmp}
 use Rattle.std.specs.{List.{IsDistinct, AllByRecursion}, Ordering.eq_by_cmp}
 use Rattle.lc_tree.specs.ByteOrder.{bytes_cmp, AreApart}
 use Rattle.lc_level.specs.{FaultLines.FaultLineModel, Level.{SkippedLineModel, FileLineModel}}
 use Rattle.lc_level.proofs.WellFormed.{other_bytes, bytes_other}
 use Rattle.lc_board.proofs.Weights.{each-append}
-use Rattle.lc_walk.specs.{Found.{Found, found_file, found_fault, found_directory, found_skipped, path_of}, Laws.PathsOnceLaw}
-use Rattle.lc_walk.specs.{ReportLines.{file_paths, fault_paths, skipped_paths}, RecursiveWalk.walk_of, FoundReports.{files_of, faults_of}}
-use Rattle.lc_walk.specs.{FoundReports.{skipped_lines_of, IsReportOf}, declared.{options.ReportLists.ReportLists, report.Report.Report}}
+use Rattle.lc_walk.specs.{Found.{Found, found_file, found_fault, found_skipped, path_of}, Laws.PathsOnceLaw, ReportLines.file_paths}
+use Rattle.lc_walk.specs.{ReportLines.{fault_paths, skipped_paths}, FoundReports.{files_of, faults_of, skipped_lines_of, IsReportOf}}
+use Rattle.lc_walk.specs.declared.{options.ReportLists.ReportLists, report.Report.Report}
 use Rattle.lc_walk.proofs.{Distinct.{Distinct, distinct-append, picked, picked_distinct, picked_apart}, Listings.flat_none, PathsOnce.fine}
 
 apart_all : (x : List ℕ) (ys : List (List ℕ)) → AllByRecursion (λ y. x ≢ y) ys → AllByRecursion (λ y. eq_by_cmp bytes_cmp x y ≡ false) ys
@@ -38,8 +39,7 @@ apart_moved xs ys = IsDistinct-IsPermutation _ ((eq_by_cmp_equiv nat_list_cmp_to
 
 -- no path stands twice in a walk
 pub paths_once_law : PathsOnceLaw
-paths_once_law filters depth j t well_formed = apart_from_distinct (map path_of (walk_of filters depth j t))
-    (fine filters depth j t well_formed).1
+paths_once_law = grind (arith, common_steps, apart_from_distinct, fine)
 
 -- nor in what was found in another order
 pub found_apart : (xs ys : List Found) → IsPermutation xs ys → AreApart (map path_of xs) → AreApart (map path_of ys)
@@ -49,79 +49,54 @@ found_apart xs ys moved a = apart_moved (map path_of xs) (map path_of ys) (IsPer
 
 abbrev is_file : Bool → Found → Bool
 is_file asked (found_file directory f) = asked
-is_file asked (found_fault path word) = false
-is_file asked (found_directory path entries) = false
-is_file asked (found_skipped directory l) = false
+is_file asked thing = false
 
 abbrev is_fault : Found → Bool
-is_fault (found_file directory f) = false
 is_fault (found_fault path word) = true
-is_fault (found_directory path entries) = false
-is_fault (found_skipped directory l) = false
+is_fault thing = false
 
 abbrev is_skipped : Bool → Found → Bool
-is_skipped asked (found_file directory f) = false
-is_skipped asked (found_fault path word) = false
-is_skipped asked (found_directory path entries) = false
 is_skipped asked (found_skipped directory l) = asked
+is_skipped asked thing = false
 
 none_picked : (xs : List Found) (keep : Found → Bool) → ((x : Found) → keep x ≡ false) → picked path_of keep xs ≡ []
 none_picked xs keep none = flat_none (λ x. cond (keep x) (path_of x ∷ []) []) xs (λ x. ap (λ b. cond b (path_of x ∷ []) []) (none x))
 
 no_file : (x : Found) → is_file false x ≡ false
-no_file (found_file directory f) = refl
-no_file (found_fault path word) = refl
-no_file (found_directory path entries) = refl
-no_file (found_skipped directory l) = refl
+no_file x = grind (arith, common_steps)
 
 none_skipped : (x : Found) → is_skipped false x ≡ false
-none_skipped (found_file directory f) = refl
-none_skipped (found_fault path word) = refl
-none_skipped (found_directory path entries) = refl
-none_skipped (found_skipped directory l) = refl
+none_skipped x = grind (arith, common_steps)
 
 -- the paths of a list of lines are those of the things that have a line
 file_paths_are : (asked : Bool) (xs : List Found) → file_paths (cond asked (files_of xs) []) ≡ picked path_of (is_file asked) xs
 file_paths_are false xs = sym (none_picked xs (is_file false) no_file)
 file_paths_are true [] = refl
 file_paths_are true (found_file directory f ∷ xs) = ap (λ l. path_of (found_file directory f) ∷ l) (file_paths_are true xs)
-file_paths_are true (found_fault path word ∷ xs) = file_paths_are true xs
-file_paths_are true (found_directory path entries ∷ xs) = file_paths_are true xs
-file_paths_are true (found_skipped directory l ∷ xs) = file_paths_are true xs
+file_paths_are true (thing ∷ xs) = file_paths_are true xs
 
 fault_paths_are : (xs : List Found) → fault_paths (faults_of xs) ≡ picked path_of is_fault xs
 fault_paths_are [] = refl
-fault_paths_are (found_file directory f ∷ xs) = fault_paths_are xs
 fault_paths_are (found_fault path word ∷ xs) = ap (λ l. path ∷ l) (fault_paths_are xs)
-fault_paths_are (found_directory path entries ∷ xs) = fault_paths_are xs
-fault_paths_are (found_skipped directory l ∷ xs) = fault_paths_are xs
+fault_paths_are (thing ∷ xs) = fault_paths_are xs
 
 skipped_paths_are : (asked : Bool) (xs : List Found)
     → skipped_paths (cond asked (skipped_lines_of xs) []) ≡ picked path_of (is_skipped asked) xs
 skipped_paths_are false xs = sym (none_picked xs (is_skipped false) none_skipped)
 skipped_paths_are true [] = refl
-skipped_paths_are true (found_file directory f ∷ xs) = skipped_paths_are true xs
-skipped_paths_are true (found_fault path word ∷ xs) = skipped_paths_are true xs
-skipped_paths_are true (found_directory path entries ∷ xs) = skipped_paths_are true xs
 skipped_paths_are true (found_skipped directory l ∷ xs) = ap (λ ls. path_of (found_skipped directory l) ∷ ls) (skipped_paths_are true xs)
+skipped_paths_are true (thing ∷ xs) = skipped_paths_are true xs
 
 file_no_fault : (asked : Bool) (x : Found) → is_file asked x ≡ true → is_fault x ≡ true → ⊥
-file_no_fault asked (found_file directory f) a b = cc
-file_no_fault asked (found_fault path word) a b = cc
-file_no_fault asked (found_directory path entries) a b = cc
-file_no_fault asked (found_skipped directory l) a b = cc
+file_no_fault asked x a b = grind (arith, common_steps)
 
 file_not_skipped : (asked other : Bool) (x : Found) → is_file asked x ≡ true → is_skipped other x ≡ true → ⊥
-file_not_skipped asked other (found_file directory f) a b = cc
-file_not_skipped asked other (found_fault path word) a b = cc
-file_not_skipped asked other (found_directory path entries) a b = cc
-file_not_skipped asked other (found_skipped directory l) a b = cc
+file_not_skipped asked other x a b = grind (arith, common_steps)
 
 fault_not_skipped : (asked : Bool) (x : Found) → is_fault x ≡ true → is_skipped asked x ≡ true → ⊥
-fault_not_skipped asked (found_file directory f) a b = cc
-fault_not_skipped asked (found_fault path word) a b = cc
-fault_not_skipped asked (found_directory path entries) a b = cc
-fault_not_skipped asked (found_skipped directory l) a b = cc
+fault_not_skipped asked x a b = grind (arith, common_steps)
+
+ruleset kinds_apart = (file_no_fault, file_not_skipped, fault_not_skipped)
 
 module _ (xs : List Found) (once : AreApart (map path_of xs)) where
   distinct : Distinct (map path_of xs)
@@ -145,17 +120,7 @@ module _ (xs : List Found) (once : AreApart (map path_of xs)) where
   three_lists : (lists : ReportLists) → Distinct (picked path_of (is_file lists.files) xs ++ picked path_of is_fault xs
       ++ picked path_of (is_skipped lists.left_out) xs)
   three_lists lists =
-      let files = picked path_of (is_file lists.files) xs in
-      let faults = picked path_of is_fault xs in
-      let out = picked path_of (is_skipped lists.left_out) xs in
-      distinct-append (files ++ faults) out
-      (distinct-append files faults (picked_distinct path_of (is_file lists.files) xs distinct)
-      (picked_distinct path_of is_fault xs distinct)
-      (picked_apart path_of (is_file lists.files) is_fault (file_no_fault lists.files) xs distinct))
-      (picked_distinct path_of (is_skipped lists.left_out) xs distinct)
-      (each-append (λ m. AllByRecursion (λ n. m ≢ n) out) files faults
-      (picked_apart path_of (is_file lists.files) (is_skipped lists.left_out) (file_not_skipped lists.files lists.left_out) xs distinct)
-      (picked_apart path_of is_fault (is_skipped lists.left_out) (fault_not_skipped lists.left_out) xs distinct))
+      search (rules, arith, kinds_apart, distinct-append, picked_distinct, distinct, picked_apart, each-append)
 
   -- nor in two of these lists of a report
   pub all_lists_apart : (lists : ReportLists) (r : Report) → IsReportOf lists xs r

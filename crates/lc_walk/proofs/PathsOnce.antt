@@ -1,23 +1,22 @@
 -- No path stands twice in a walk of a tree whose listings are well-formed.
-use Rattle.std.proofs.Common.{◌≡◌, ◌≢◌, ℕ, zero, suc, not, Bool, true, false, cond, List, [], ◌∷◌, ◌++◌, map, refl, sym, ◌∙◌, ap, ◌&&◌}
-use Rattle.std.proofs.Common.{length, subst, inl, inr, Option, Some, None, Result, Ok, Err, append_assoc, append-nil, bytes_eq}
-use Rattle.std.proofs.lemmas.{Bool.or_parts, Grind.flat_map-append, List.map-append}
-use Rattle.std.specs.{List.{flat_map, AllByRecursion}, Option.{is_none, option_map_or}}
+use Rattle.std.proofs.Common.{arith, ◌≡◌, ◌≢◌, ℕ, zero, suc, not, Bool, true, false, cond, List, [], ◌∷◌, ◌++◌, map, refl, sym, ◌∙◌, ap}
+use Rattle.std.proofs.Common.{◌&&◌, subst, inl, inr, Result, append_assoc, append-nil, bytes_eq}
+use Rattle.std.proofs.lemmas.{Grind.{common_steps, flat_map-append}, Bool.or_parts, List.map-append}
+use Rattle.std.specs.List.{flat_map, AllByRecursion}
 use Rattle.lc_census.specs.declared.line_count.Count.{Count}
-use Rattle.lc_tree.specs.{declared.entry.Kind.TheVariants.{File, Dir, Other}, Kinds.is_dir, Paths.names_of_path}
+use Rattle.lc_tree.specs.{Kinds.is_dir, Paths.names_of_path}
 use Rattle.lc_level.specs.{declared.fault_word.FaultWord.FaultWord, Answers.{Item, file_item, directory_item, other_item, Tree, entry_of}}
-use Rattle.lc_level.specs.{Answers.name_of, Job.JobModel, RuleFiles.extended, Level.{Reason, other_kind, Fate, walked, skipped}}
-use Rattle.lc_level.specs.Level.{level_of_items, file_reason, reason_of, is_counted, is_taken, child_job, fate_of, file_fate}
+use Rattle.lc_level.specs.{Answers.name_of, Job.JobModel, RuleFiles.extended, Level.{level_of_items, is_taken, fate_of, file_fate}}
 use Rattle.lc_level.specs.{Level.{listed_level, walked_in, fates_of}, Narrowing.{stands_below, leads_to, part_of, absent_from}}
 use Rattle.lc_level.specs.{Filters.FiltersModel, WellFormed.IsWellFormed}
 use Rattle.lc_glob.specs.Path.{path_in, segments_of}
-use Rattle.lc_walk.specs.Found.{Found, found_directory, found_absent, path_of, found_by, found_of, found_at, children_of, children_at}
+use Rattle.lc_walk.specs.Found.{Found, found_absent, path_of, found_by, found_of, found_at, children_of, children_at}
 use Rattle.lc_walk.specs.RecursiveWalk.{walks_below, walk_by}
 use Rattle.lc_board.proofs.Weights.{each-map, each-append}
 use Rattle.lc_level.proofs.{WellFormed.{IsGoodName, Spread, bytes_other}, PathNames.one_name, Fates.{children_by, walked_items_are}}
 use Rattle.lc_walk.proofs.AbsentPaths.{names_of_rest, not_below, not_above, rests_apart, NoneLeads, absent_distinct, absent_asked}
 use Rattle.lc_walk.proofs.{AbsentPaths.absent_leads, Distinct.{Distinct, distinct-append, picked, each_picked, picked_distinct}}
-use Rattle.lc_walk.proofs.{Distinct.picked_apart, Levels.{IsOwnPlace, own_level_keeps, well_formed_items, IsChild, each_child}}
+use Rattle.lc_walk.proofs.{Distinct.picked_apart, Levels.{IsOwnPlace, own_level_keeps, well_formed_items, IsChild, each_child, good_names}}
 use Rattle.lc_walk.proofs.PathGroups.{Below, Under, Group, IsGroup, groups_distinct, groups_below, groups_above}
 use Rattle.lc_walk.proofs.{Places.names_of_path-path_in, TakingPart.{each_filter, spread_part}}
 
@@ -25,81 +24,40 @@ use Rattle.lc_walk.proofs.{Places.names_of_path-path_in, TakingPart.{each_filter
 
 -- an item whose fate is to be walked
 abbrev enters_it : FiltersModel → JobModel → Item → Bool
-enters_it filters j (file_item n c r) = false
 enters_it filters j (directory_item n) = is_taken filters j n true
-enters_it filters j (other_item n what) = false
+enters_it filters j item = false
 
 abbrev stays : FiltersModel → JobModel → Item → Bool
 stays filters j e = not (enters_it filters j e)
 
 not_both : (b : Bool) → not b ≡ true → b ≡ true → ⊥
-not_both true e t = cc
-not_both false e t = cc
-
--- an item that is not walked gives one thing, at its path
-path_by_reason : (d n : List ℕ) (fate : Reason → Fate) (own : Fate) (b : Bool) (o : Option Reason) →
-    ((reason : Reason) → map path_of (found_by d (n, fate reason)) ≡ path_in d n ∷ []) →
-    map path_of (found_by d (n, own)) ≡ map (path_in d) (cond b (n ∷ []) []) →
-    map path_of (found_by d (n, option_map_or fate o own)) ≡ map (path_in d) (cond (cond (is_none o) b true) (n ∷ []) [])
-path_by_reason d n fate own b None out is = is
-path_by_reason d n fate own b (Some reason) out is = out reason
+not_both b e t = grind (arith, common_steps)
 
 path_of_file : (filters : FiltersModel) (d n : List ℕ) (j : JobModel) (c : Result Count FaultWord)
     → map path_of (found_by d (n, file_fate filters j n c)) ≡ path_in d n ∷ []
-path_of_file filters d n j (Ok count) = refl
-path_of_file filters d n j (Err word) = refl
+path_of_file filters d n j c = grind (arith, common_steps)
 
 stays_so : (b : Bool) → cond b false true ≡ not b
-stays_so true = refl
-stays_so false = refl
+stays_so b = grind (arith, common_steps)
 
 always_so : (b : Bool) → cond b true true ≡ true
-always_so true = refl
-always_so false = refl
+always_so b = grind (arith, common_steps)
 
 path_by_item : (filters : FiltersModel) (j : JobModel) (e : Item)
     → map path_of (found_by j.path (name_of e, fate_of filters j e)) ≡ map (path_in j.path) (picked name_of (stays filters j) (e ∷ []))
-path_by_item filters j (file_item n c r) =
-    path_by_reason j.path n (skipped File) (file_fate filters j n c) true (file_reason filters j n) (λ reason. refl)
-    (path_of_file filters j.path n j c)
-    ∙ ap (λ b. map (path_in j.path) (cond b (n ∷ []) [])) (always_so (is_counted filters j n))
-path_by_item filters j (directory_item n) =
-    path_by_reason j.path n (skipped Dir) (walked (child_job j n)) false (reason_of filters j n true) (λ reason. refl) refl
-    ∙ ap (λ b. map (path_in j.path) (cond b (n ∷ []) [])) (stays_so (is_taken filters j n true))
-    ∙ ap (map (path_in j.path)) (sym (append-nil (cond (stays filters j (directory_item n)) (n ∷ []) [])))
-path_by_item filters j (other_item n what) =
-    path_by_reason j.path n (skipped (Other what)) (skipped (Other what) (other_kind what)) true (reason_of filters j n false)
-    (λ reason. refl) refl
-    ∙ ap (λ b. map (path_in j.path) (cond b (n ∷ []) [])) (always_so (is_taken filters j n false))
+path_by_item filters j (file_item n c r) = grind (arith, common_steps, path_of_file, always_so, stays_so, append-nil)
+path_by_item filters j (directory_item n) = grind (arith, common_steps, path_of_file, always_so, stays_so, append-nil)
+path_by_item filters j (other_item n what) = grind (arith, common_steps, path_of_file, always_so, stays_so, append-nil)
 
 paths_by_items : (filters : FiltersModel) (j : JobModel) (es : List Item)
     → map path_of (flat_map (found_by j.path) (fates_of filters j es)) ≡ map (path_in j.path) (picked name_of (stays filters j) es)
 paths_by_items filters j [] = refl
-paths_by_items filters j (e ∷ es) =
-    let own : List Found = found_by j.path (name_of e, fate_of filters j e) in
-    map-append path_of own (flat_map (found_by j.path) (fates_of filters j es))
-    ∙ ap (λ l. l ++ map path_of (flat_map (found_by j.path) (fates_of filters j es))) (path_by_item filters j e
-    ∙ ap (map (path_in j.path)) (append-nil (cond (stays filters j e) (name_of e ∷ []) [])))
-    ∙ ap (λ l. map (path_in j.path) (cond (stays filters j e) (name_of e ∷ []) []) ++ l) (paths_by_items filters j es)
-    ∙ sym (map-append (path_in j.path) (cond (stays filters j e) (name_of e ∷ []) []) (picked name_of (stays filters j) es))
-
-child_name : (filters : FiltersModel) (j : JobModel) (e : Item)
-    → map (λ (c : List ℕ × JobModel). c.0) (children_by filters j e) ≡ cond (enters_it filters j e) (name_of e ∷ []) []
-child_name filters j (file_item n c r) = refl
-child_name filters j (directory_item n) = at (is_taken filters j n true)
-  where
-    at : (b : Bool) → map (λ (c : List ℕ × JobModel). c.0) (cond b ((n, child_job j n) ∷ []) []) ≡ cond b (n ∷ []) []
-    at true = refl
-    at false = refl
-child_name filters j (other_item n what) = refl
+paths_by_items filters j (e ∷ es) = grind (arith, common_steps, map-append, path_by_item, append-nil, picked, paths_by_items filters j es)
 
 child_names : (filters : FiltersModel) (j : JobModel) (es : List Item)
     → map (λ (c : List ℕ × JobModel). c.0) (flat_map (children_by filters j) es) ≡ picked name_of (enters_it filters j) es
 child_names filters j [] = refl
-child_names filters j (e ∷ es) =
-    map-append (λ (c : List ℕ × JobModel). c.0) (children_by filters j e) (flat_map (children_by filters j) es)
-    ∙ ap (λ l. l ++ map (λ (c : List ℕ × JobModel). c.0) (flat_map (children_by filters j) es)) (child_name filters j e)
-    ∙ ap (λ l. cond (enters_it filters j e) (name_of e ∷ []) [] ++ l) (child_names filters j es)
+child_names filters j (e ∷ es) = grind (arith, common_steps, map-append, children_by, child_names filters j es)
 
 -- ---- a walk
 
@@ -117,9 +75,7 @@ module _ (filters : FiltersModel) where
       paths (walks_below (found_at filters) (children_at filters) (walk k) t cs) ≡ flat_map (λ (g : Group). g.1)
       (map (λ c. (c.0, paths (walk k c.1 (λ p. t (c.0 ∷ p))))) cs)
   below_groups k t [] = refl
-  below_groups k t (c ∷ cs) =
-      map-append path_of (walk k c.1 (λ p. t (c.0 ∷ p))) (walks_below (found_at filters) (children_at filters) (walk k) t cs)
-      ∙ ap (λ l. paths (walk k c.1 (λ p. t (c.0 ∷ p))) ++ l) (below_groups k t cs)
+  below_groups k t (c ∷ cs) = grind (arith, common_steps, map-append, below_groups k t cs)
 
   own_groups : (d : List ℕ) (ns : List (List ℕ)) → map (path_in d) ns ≡ flat_map (λ (g : Group). g.1) (map (λ n. (n, path_in d n ∷ [])) ns)
   own_groups d [] = refl
@@ -156,10 +112,6 @@ module _ (filters : FiltersModel) where
       → map (λ (g : Group). g.0) (map (λ c. (c.0, paths (walk k c.1 (λ p. t (c.0 ∷ p))))) cs) ≡ map (λ c. c.0) cs
   names_after k t [] = refl
   names_after k t (c ∷ cs) = ap (λ l. c.0 ∷ l) (names_after k t cs)
-
-  good_names : (es : List Item) → Spread es → AllByRecursion (λ e. IsGoodName (name_of e)) es
-  good_names [] s = tt
-  good_names (e ∷ es) s = (s.1, good_names es s.2)
 
   names_apart_of : (es : List Item) → Spread es → Distinct (map name_of es)
   names_apart_of [] s = tt
@@ -210,26 +162,13 @@ module _ (filters : FiltersModel) where
       AllByRecursion (λ x. path_in d r ≢ x) (flat_map (λ (g : Group). g.1) (child_groups_of k t cs))
   absent_no_child k d r t [] some a groups = tt
   absent_no_child k d r t (c ∷ cs) some a groups =
-      each-append (λ x. path_in d r ≢ x) (paths (walk k c.1 (λ p. t (c.0 ∷ p)))) _
-      (each-map (Under d c.0) (λ x. path_in d r ≢ x) (λ x u e. not_below d r c.0 x u.0 some a.0.0 a.0.1 u.1 e)
-      (paths (walk k c.1 (λ p. t (c.0 ∷ p)))) groups.0.0)
-      (absent_no_child k d r t cs some a.1 groups.1)
+      grind (arith, common_steps, each-append, each-map, not_below, absent_no_child k d r t cs some a.1 groups.1)
 
   no_child_led : (j : JobModel) (r : List ℕ) (es : List Item) → NoneLeads filters.only j.path es r →
       AllByRecursion (IsApartFrom r) (flat_map (children_by filters j) es)
   no_child_led j r [] a = tt
-  no_child_led j r (file_item n c rules ∷ es) a = no_child_led j r es a.1
-  no_child_led j r (other_item n what ∷ es) a = no_child_led j r es a.1
-  no_child_led j r (directory_item n ∷ es) a = at (is_taken filters j n true) (no_child_led j r es a.1)
-    where
-      apart : (bytes_eq n r ≡ false) × (stands_below r n ≡ false)
-      apart = or_parts (bytes_eq n r) (stands_below r n) a.0
-
-      at : (b : Bool) → AllByRecursion (IsApartFrom r) (flat_map (children_by filters j) es)
-          → AllByRecursion (IsApartFrom r)
-          (cond b ((n, child_job j n) ∷ []) [] ++ flat_map (children_by filters j) es)
-      at true rest = (apart, rest)
-      at false rest = rest
+  no_child_led j r (directory_item n ∷ es) a = grind (arith, common_steps, or_parts, children_by, no_child_led j r es a.1)
+  no_child_led j r (item ∷ es) a = no_child_led j r es a.1
 
   children_good : (k : ℕ) (j : JobModel) (t : Tree) (es : List Item) → Spread es →
       ((i : JobModel) (u : List ℕ) → IsFine i.path (paths (walk k i (λ p. t (u ∷ p))))) →
@@ -294,21 +233,7 @@ module _ (filters : FiltersModel) where
       ++ walks_below (found_at filters) (children_at filters) (walk k) t (walked_in (fates_of filters j es)))
       ≡ map (path_in j.path) absent ++ j.path ∷ flat_map (λ (g : Group). g.1) (groups_of k j t es)
   level_paths k j t es absent =
-      let cs : List (List ℕ × JobModel) = walked_in (fates_of filters j es) in
-      let below : List Found = walks_below (found_at filters) (children_at filters) (walk k) t cs in
-      let own : List Found = flat_map (found_by j.path) (fates_of filters j es) in
-      let here : List Found = found_directory j.path (length (fates_of filters j es)) ∷ own in
-      let rest : paths (here ++ below) ≡ j.path ∷ flat_map (λ (g : Group). g.1) (groups_of k j t es) =
-      ap (λ l. j.path ∷ l)
-      (map-append path_of own below
-      ∙ ap (λ l. l ++ paths below)
-      (paths_by_items filters j es ∙ own_groups j.path (picked name_of (stays filters j) es))
-      ∙ ap (λ l. flat_map (λ (g : Group). g.1) (own_groups_of j es) ++ l) (below_groups k t cs)
-      ∙ sym (flat_map-append (λ (g : Group). g.1) (own_groups_of j es) (child_groups_of k t cs))) in
-      ap paths (append_assoc (map (found_absent j.path) absent) here below)
-      ∙ map-append path_of (map (found_absent j.path) absent) (here ++ below)
-      ∙ ap (λ l. l ++ paths (here ++ below)) (absent_paths j.path absent)
-      ∙ ap (λ l. map (path_in j.path) absent ++ l) rest
+      grind (arith, common_steps, map-append, paths_by_items, own_groups, picked, below_groups, flat_map-append, append_assoc, absent_paths)
 
   -- a level of items, with the walks of its children
   of_items : (k : ℕ) (j : JobModel) (t : Tree) (es : List Item) → Spread es →
@@ -320,8 +245,7 @@ module _ (filters : FiltersModel) where
       let absent : List (List ℕ) = absent_from filters.only j.path es in
       let within : IsFine j.path (j.path ∷ flat_map (λ (g : Group). g.1) (groups_of k j t part)) =
       of_part k j t part (spread_part filters.only j.path es s) rec in
-      let asked : AllByRecursion (λ r. j.path ≡ [] → r ≢ []) absent =
-      each-map _ (λ r. j.path ≡ [] → r ≢ []) (λ r h. h.1) absent (absent_asked filters.only j.path es) in
+      let asked : AllByRecursion (λ r. j.path ≡ [] → r ≢ []) absent = grind (arith, common_steps, each-map, absent_asked) in
       subst (IsFine j.path) (sym (level_paths k j t part absent)) (
         each-append (Below j.path) (map (path_in j.path) absent) _ (absent_below j.path absent asked) within.0,
         distinct-append (map (path_in j.path) absent) _ (rests_apart j.path absent (absent_distinct filters.only j.path es)) within.1

@@ -1,10 +1,10 @@
 -- Paths below, within and above others.
-use Rattle.std.proofs.Common.{◌≡◌, ◌≢◌, ℕ, ◌==◌, true, false, List, [], ◌∷◌, ◌++◌, refl, sym, ◌∙◌, ap, subst, inl, inr, ◌⊎◌, append_assoc}
-use Rattle.std.proofs.{Common.eq-eqb, lemmas.List.append_cancel_left}
+use Rattle.std.proofs.Common.{arith, ◌≡◌, ◌≢◌, ℕ, ◌==◌, true, false, List, [], ◌∷◌, ◌++◌, refl, sym, ◌∙◌, ap, subst, inl, inr, ◌⊎◌}
+use Rattle.std.proofs.{Common.{append_assoc, eq-eqb}, lemmas.{Grind.common_steps, List.append_cancel_left}}
 use Rattle.std.specs.List.{Contains, AllByRecursion}
 use Rattle.lc_glob.specs.Path.{path_in, is_good_path}
 use Rattle.lc_level.proofs.WellFormed.{IsGoodName, clash}
-use Rattle.lc_tree.specs.{Kinds.is_dir, declared.entry.Kind.{Kind, TheVariants.{File, Dir}}}
+use Rattle.lc_tree.specs.declared.entry.Kind.{Kind, TheVariants.{File, Dir}}
 use Rattle.lc_walk.specs.PartOfWalk.{IsBelow, IsWithin, IsAbove, EntryTakesPart, IsOnWay}
 use Rattle.lc_walk.proofs.Elements.{In, is_in}
 
@@ -19,16 +19,8 @@ pub comparable : (c q r s : List ℕ) → c ++ 47 ∷ r ≡ q ++ 47 ∷ s → (c
 comparable [] [] r s e = inl refl
 comparable [] (b ∷ bs) r s e = inr (inr (bs, ap (λ x. x ∷ bs) (sym (head_is 47 b r (bs ++ 47 ∷ s) e))))
 comparable (b ∷ bs) [] r s e = inr (inl (bs, ap (λ x. x ∷ bs) (head_is b 47 (bs ++ 47 ∷ r) s e)))
-comparable (b ∷ bs) (c ∷ cs) r s e = at (comparable bs cs r s (tail_is b c (bs ++ 47 ∷ r) (cs ++ 47 ∷ s) e))
-  where
-    first : b ≡ c
-    first = head_is b c (bs ++ 47 ∷ r) (cs ++ 47 ∷ s) e
-
-    at : (bs ≡ cs) ⊎ (IsBelow bs cs ⊎ IsBelow cs bs)
-        → (b ∷ bs ≡ c ∷ cs) ⊎ (IsBelow (b ∷ bs) (c ∷ cs) ⊎ IsBelow (c ∷ cs) (b ∷ bs))
-    at (inl same) = inl (ap (λ x. x ∷ bs) first ∙ ap (λ l. c ∷ l) same)
-    at (inr (inl below)) = inr (inl (below.0, ap (λ x. x ∷ bs) first ∙ ap (λ l. c ∷ l) below.1))
-    at (inr (inr below)) = inr (inr (below.0, ap (λ x. x ∷ cs) (sym first) ∙ ap (λ l. b ∷ l) below.1))
+comparable (b ∷ bs) (c ∷ cs) r s e =
+    grind (arith, common_steps, head_is, tail_is, comparable bs cs r s (tail_is b c (bs ++ 47 ∷ r) (cs ++ 47 ∷ s) e))
 
 -- at or below a path
 abbrev pub IsAtOrBelow : List ℕ → List ℕ → Type 0
@@ -36,20 +28,15 @@ IsAtOrBelow x c = (x ≡ c) ⊎ IsBelow x c
 
 -- of two paths at or above a third one stands at, above or below the other
 pub both_above : (x c q : List ℕ) → IsAtOrBelow x c → IsAtOrBelow x q → (c ≡ q) ⊎ (IsBelow c q ⊎ IsBelow q c)
-both_above x c q (inl e) (inl f) = inl (sym e ∙ f)
-both_above x c q (inl e) (inr f) = inr (inl (f.0, sym e ∙ f.1))
-both_above x c q (inr e) (inl f) = inr (inr (e.0, sym f ∙ e.1))
-both_above x c q (inr e) (inr f) = comparable c q e.0 f.0 (sym e.1 ∙ f.1)
+both_above x c q a b = grind (arith, common_steps, comparable)
 
 -- what stands below what stands below a path
 pub below_below : (x y z : List ℕ) → IsBelow x y → IsBelow y z → IsBelow x z
-below_below x y z a b =
-    (b.0 ++ 47 ∷ a.0, a.1 ∙ ap (λ l. l ++ 47 ∷ a.0) b.1 ∙ append_assoc z (47 ∷ b.0) (47 ∷ a.0))
+below_below x y z a b = grind (arith, common_steps, append_assoc)
 
 -- or at what does
 pub below_at : (x y z : List ℕ) → IsAtOrBelow x y → IsBelow y z → IsBelow x z
-below_at x y z (inl e) b = (b.0, e ∙ b.1)
-below_at x y z (inr a) b = below_below x y z a b
+below_at x y z a b = grind (arith, common_steps, below_below)
 
 -- ---- names
 
@@ -61,17 +48,7 @@ no_slash_in (b ∷ bs) (c ∷ cs) rest a e = no_slash_in bs cs rest a.1 (tail_is
 
 -- above the path of a name stands the directory, or what is above it
 parent_cut : (d n q rest : List ℕ) → AllByRecursion (λ b. (b == 47) ≡ false) n → d ++ 47 ∷ n ≡ q ++ 47 ∷ rest → IsAtOrBelow d q
-parent_cut d n q rest a e = at (comparable d q n rest e)
-  where
-    at : (d ≡ q) ⊎ (IsBelow d q ⊎ IsBelow q d) → IsAtOrBelow d q
-    at (inl same) = inl same
-    at (inr (inl below)) = inr below
-    at (inr (inr below)) =
-        let whole : d ++ 47 ∷ n ≡ d ++ 47 ∷ (below.0 ++ 47 ∷ rest) =
-        e ∙ ap (λ l. l ++ 47 ∷ rest) below.1 ∙ append_assoc d (47 ∷ below.0) (47 ∷ rest) in
-        let n_is : 47 ∷ n ≡ 47 ∷ (below.0 ++ 47 ∷ rest) =
-        append_cancel_left d (47 ∷ n) (47 ∷ (below.0 ++ 47 ∷ rest)) whole in
-        absurd (no_slash_in n below.0 rest a (tail_is 47 47 n (below.0 ++ 47 ∷ rest) n_is))
+parent_cut d n q rest a e = grind (arith, common_steps, comparable, append_assoc, append_cancel_left, no_slash_in, tail_is)
 
 -- a name stands below its directory, but for the top's
 pub name_below : (d n : List ℕ) → d ≢ [] → IsBelow (path_in d n) d
@@ -80,36 +57,29 @@ name_below (b ∷ bs) n some = (n, refl)
 
 -- and is not the top
 pub name_some : (d n : List ℕ) → IsGoodName n → path_in d n ≢ []
-name_some [] n good e = good.0 e
-name_some (b ∷ bs) n good e = absurd (cc e)
+name_some d n good = grind (arith, common_steps)
 
 -- what follows a name follows its path
 pub path_more : (d n l : List ℕ) → path_in d (n ++ l) ≡ path_in d n ++ l
-path_more [] n l = refl
-path_more (b ∷ bs) n l = sym (append_assoc (b ∷ bs) (47 ∷ n) l)
+path_more d n l = grind (arith, common_steps, append_assoc)
 
 -- ---- what takes part
 
 -- a file takes part only within
 pub within_file : (only : List (List ℕ)) (kind : Kind) (p : List ℕ) → kind ≡ File → EntryTakesPart only kind p → IsWithin only p
-within_file only kind p file (inl within) = within
-within_file only kind p file (inr (dir, above)) =
-    let h : false ≡ true = sym (ap is_dir file) ∙ dir in absurd (cc h)
+within_file only kind p file takes = grind (arith, common_steps)
 
 -- a directory takes part within or above
 pub directory_takes : (only : List (List ℕ)) (p : List ℕ) → IsWithin only p ⊎ IsAbove only p → EntryTakesPart only Dir p
-directory_takes only p (inl within) = inl within
-directory_takes only p (inr above) = inr (refl, above)
+directory_takes only p takes = grind (arith, common_steps)
 
 -- and so is on the way
 pub takes_on_way : (only : List (List ℕ)) (kind : Kind) (p : List ℕ) → EntryTakesPart only kind p → IsOnWay only p
-takes_on_way only kind p (inl within) = inr (inl within)
-takes_on_way only kind p (inr above) = inr (inr above.1)
+takes_on_way only kind p takes = grind (arith, common_steps)
 
 -- a path below another directory than the top is not the top's
 pub path_some : (d n : List ℕ) → d ≢ [] → path_in d n ≢ []
-path_some [] n some = absurd (some refl)
-path_some (b ∷ bs) n some = λ e. absurd (cc e)
+path_some d n some = grind (arith, common_steps)
 
 module _ (only : List (List ℕ)) where
   -- what stands within has its directory within, or is itself asked for

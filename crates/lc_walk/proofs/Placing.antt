@@ -1,8 +1,7 @@
 -- Lawful rows in place make a tree.
-use Rattle.std.proofs.Common.{◌≡◌, ◌≢◌, ℕ, zero, suc, Bool, List, [], slice_get, sym, ◌∙◌, ap, arith, subst, Some, ◌⊎◌, inl, inr}
-use Rattle.std.proofs.lemmas.Option.{slice_get_within}
+use Rattle.std.proofs.{lemmas.{Grind.common_steps, Option.slice_get_within}, Common.{◌≡◌, ◌≢◌, ℕ, suc, Bool, List, [], slice_get, sym, ◌∙◌}}
+use Rattle.std.proofs.Common.{ap, arith, subst, Some, ◌⊎◌, inl, inr}
 use Rattle.lc_board.specs.{State.{Absent, status}, LegalHistory.posts_under, declared.{event.Event.Event, answers.Ended.Ended}}
-use Rattle.lc_glob.specs.Path.{path_in}
 use Rattle.lc_level.specs.{Answers.Answers, Job.JobModel}
 use Rattle.lc_walk.specs.{Found.children_at, RowViews.ChildModel, Rows.{row_of, job_of, children_in}, Lawful.{Asked, named}}
 use Rattle.lc_walk.specs.{TreeOfRows.children_at_row, ClosedWalks.{Walked, AreWhole}, Assembled.{IsLinkedOnce, IsPlaced}}
@@ -50,12 +49,10 @@ module _ (ask : Asked) (full : Bool) (capacity workers : ℕ) (top : JobModel) (
           above = r.row;
           is = r.is;
           child = c.child;
-          here = ap (λ cs. slice_get cs c.at) (named_here p r.row r.is)
-              ∙ c.here;
+          here = grind (arith, common_steps, named_here);
           number = c.number;
         };
-        path = ap (λ (j : JobModel). j.path) (job_here k e is) ∙ c.path ∙ ap (λ (j : JobModel). path_in j.path c.child.name)
-            (sym (job_here p r.row r.is));
+        path = grind (arith, common_steps, job_here);
         only = λ q n edge.
             let same : q ≡ p = one_parent capacity workers top h walked.legal q p k
             (in_posts q k edge.above n edge.child edge.is edge.here edge.number) i in
@@ -88,5 +85,4 @@ module _ (ask : Asked) (full : Bool) (capacity workers : ℕ) (top : JobModel) (
 
   -- each number is linked where the row above says
   pub placed : (k : ℕ) → IsPlaced rows k
-  placed zero = top_placed
-  placed (suc k) = below_placed k
+  placed k = grind (arith, common_steps, top_placed, below_placed)

@@ -1,9 +1,9 @@
 -- What posts leave of a pass.
+use Rattle.std.proofs.lemmas.Grind.{common_steps}
 use Rattle.std.proofs.Common.{◌≡◌, ℕ, zero, suc, ◌<◌, List, [], ◌∷◌, ◌++◌, length, take, refl, sym, ◌∙◌, ap, subst, Ok, Err, append_assoc}
 use Rattle.std.proofs.{Common.{append-nil, arith}, lemmas.List.{length-append, length-map, map-append}, Math.Seq.take-append_seam}
 use Rattle.std.specs.List.{AllByRecursion}
-use Rattle.lc_board.specs.{Pass.{Pass, held_number, adding, filled}, declared.event.Event.Event}
-use Rattle.lc_board.specs.declared.event.Event.TheVariants.{Post, Claim, Return, Fault, Over}
+use Rattle.lc_board.specs.{Pass.{Pass, held_number, adding, filled}, declared.event.Event.{Event, TheVariants.Post}}
 use Rattle.lc_level.specs.Job.{JobModel}
 use Rattle.lc_walk.specs.{Lawful.{jobs_of, named}, Posting.{IsPost, HasPosted, RefusesPost, PostsMore}, RowViews.ChildModel}
 use Rattle.lc_walk.specs.declared.{broken_cause.BrokenCause.{BrokenCause, TheVariants.{Memory, TooManyDirs, TooDeep}}, row.Row.Row}
@@ -17,25 +17,17 @@ Events = List (Event JobModel Row)
 -- what was posted before, and what was posted since
 pub posts_come : (s m : Events) → AllByRecursion IsPost s → events.posts_held (s ++ m) ≡ events.posts_held m ++ events.posts_held s
 posts_come [] m a = sym (append-nil (events.posts_held m))
-posts_come (Post w p i j ∷ s) m a =
-    ap (λ x. x ++ (i, j) ∷ []) (posts_come s m a.1) ∙ append_assoc (events.posts_held m) (events.posts_held s) ((i, j) ∷ [])
-posts_come (Claim w i j ∷ s) m a = absurd a.0
-posts_come (Return w i r ∷ s) m a = absurd a.0
-posts_come (Fault w i r ∷ s) m a = absurd a.0
-posts_come (Over w ∷ s) m a = absurd a.0
+posts_come (Post w p i j ∷ s) m a = grind (arith, common_steps, append-nil, append_assoc, posts_come s m a.1)
+posts_come (event ∷ s) m a = absurd a.0
 
 -- a post leaves the claim as it was
 pub job_stays : (s m : Events) → AllByRecursion IsPost s → events.job_held (s ++ m) ≡ events.job_held m
 job_stays [] m a = refl
 job_stays (Post w p i j ∷ s) m a = job_stays s m a.1
-job_stays (Claim w i j ∷ s) m a = absurd a.0
-job_stays (Return w i r ∷ s) m a = absurd a.0
-job_stays (Fault w i r ∷ s) m a = absurd a.0
-job_stays (Over w ∷ s) m a = absurd a.0
+job_stays (event ∷ s) m a = absurd a.0
 
 both_only : (s m : Events) → AllByRecursion IsPost s → AllByRecursion IsPost m → AllByRecursion IsPost (s ++ m)
-both_only [] m a b = b
-both_only (e ∷ s) m a b = (a.0, both_only s m a.1 b)
+both_only s m a b = grind (arith, common_steps)
 
 -- ---- posts of a pass
 
@@ -131,8 +123,7 @@ posted_all p q done rest all children e none x =
 
 -- the first jobs of all
 firsts : (done rest all : List (List ℕ × JobModel)) → done ++ rest ≡ all → jobs_of done ≡ take (length (jobs_of done)) (jobs_of all)
-firsts done rest all e = sym (take-append_seam (jobs_of done) (jobs_of rest)) ∙ ap (take (length (jobs_of done)))
-    (sym (map-append (λ (x : List ℕ × JobModel). x.1) done rest) ∙ ap jobs_of e)
+firsts done rest all e = grind (arith, common_steps, take-append_seam, map-append)
 
 -- of all child directories these were posted, and of the next none
 posted_before : (p q r : Pass JobModel Row) (done rest all : List (List ℕ × JobModel)) (c : List ℕ × JobModel) → done ++ c ∷ rest ≡ all →

@@ -1,6 +1,6 @@
 -- The numbers that a walk of a history's tree reaches: each once.
-use Rattle.std.proofs.Common.{◌≡◌, ◌≢◌, ℕ, zero, suc, ◌+◌, ◌<◌, ◌≤◌, ◌==◌, Bool, true, false, cond, List, [], ◌∷◌, ◌++◌, refl, sym, ◌∙◌}
-use Rattle.std.proofs.{Common.{ap, arith, ◌⊎◌, inl, inr}, lemmas.Bool.{eqb-true, cases_lt}}
+use Rattle.std.proofs.{lemmas.{Grind.common_steps, Bool.{eqb-true, cases_lt}}, Common.{◌≡◌, ◌≢◌, ℕ, zero, suc, ◌+◌, ◌<◌, ◌≤◌, List, []}}
+use Rattle.std.proofs.Common.{◌∷◌, ◌++◌, refl, sym, ◌∙◌, ap, arith, ◌⊎◌}
 use Rattle.std.specs.List.{flat_map}
 use Rattle.lc_board.specs.{State.{Absent, status}, LegalHistory.{posts_under, IsLegal}, Numbers.HasNumbers, declared.event.Event.Event}
 use Rattle.lc_walk.specs.TreeOfRows.{numbers_below}
@@ -49,32 +49,11 @@ module _ {J R : Type 0} (c n : ℕ) (top : J) (h : List (Event J R)) (room : 1 �
 -- a number from the bound on is not below it
 pub times_past : (p n : ℕ) → n ≤ p → times p (numbers_below n) ≡ 0
 times_past p zero l = refl
-times_past p (suc n) l =
-    let before = times_past p n (omega arith) in
-    let joined = weigh-append (only p 1) (numbers_below n) (n ∷ []) in
-    let other : only p 1 n ≡ 0 = apart (p == n) refl in
-    omega arith
-  where
-    apart : (b : Bool) → (p == n) ≡ b → only p 1 n ≡ 0
-    apart true e = let same = eqb-true p n e in absurd (omega arith)
-    apart false e = ap (λ b. cond b 1 0) e
-
-not_last : (p n : ℕ) → p < n → (b : Bool) → (p == n) ≡ b → only p 1 n ≡ 0
-not_last p n l true e = let same = eqb-true p n e in absurd (omega arith)
-not_last p n l false e = ap (λ b. cond b 1 0) e
+times_past p (suc n) l = grind (arith, common_steps, weigh-append, only, eqb-true, times_past p n (omega arith))
 
 below_or_last : (p n : ℕ) → p < suc n → (p < n → times p (numbers_below n) ≡ 1) → (p < n) ⊎ (n ≤ p)
     → times p (numbers_below n ++ n ∷ []) ≡ 1
-below_or_last p n l rec (inl b) =
-    let joined = weigh-append (only p 1) (numbers_below n) (n ∷ []) in
-    let first = rec b in
-    let other = not_last p n b (p == n) refl in
-    omega arith
-below_or_last p n l rec (inr b) =
-    let joined = weigh-append (only p 1) (numbers_below n) (n ∷ []) in
-    let none = times_past p n b in
-    let here : only p 1 n ≡ 1 = only_same p 1 n (omega arith) in
-    omega arith
+below_or_last p n l rec either = grind (arith, common_steps, weigh-append, only, eqb-true, times_past, only_same)
 
 -- a number below the bound is so once
 pub times_below : (p n : ℕ) → p < n → times p (numbers_below n) ≡ 1
@@ -84,14 +63,9 @@ times_below p (suc n) l = below_or_last p n l (times_below p n) (cases_lt p n)
 module _ {J R : Type 0} (c n : ℕ) (h : List (Event J R)) (legal : IsLegal c n h) (m : ℕ) (has : HasNumbers m h) where
   -- the numbers of the history are those below the count
   pub all_numbers : (p : ℕ) → times p (numbers h) ≡ times p (numbers_below m)
-  all_numbers p = at (cases_lt p m)
-    where
-      at : (p < m) ⊎ (m ≤ p) → times p (numbers h) ≡ times p (numbers_below m)
-      at (inl b) = once c n h legal p 1 (λ a. let past = (has p).0 a in absurd (omega arith)) ∙ sym (times_below p m b)
-      at (inr b) = not_among h p 1 ((has p).1 b) ∙ sym (times_past p m b)
+  all_numbers p = grind (arith, common_steps, cases_lt, times, numbers, once, times_below, not_among, times_past)
 
 -- each number below m is reached once, and no other
 pub reach_times : {J R : Type 0} (c n : ℕ) (top : J) (h : List (Event J R)) → 1 ≤ c → IsLegal c n h → (m : ℕ) → HasNumbers m h →
     (depth : ℕ) → c ≤ depth → (p : ℕ) → times p (reach h depth 0) ≡ times p (numbers_below m)
-reach_times c n top h room legal m has depth deep p =
-    reach_weight c n top h room legal (only p 1) depth deep ∙ all_numbers c n h legal m has p
+reach_times c n top h room legal m has depth deep p = grind (arith, common_steps, reach_weight, only, all_numbers)

@@ -1,13 +1,12 @@
 -- A report tells nothing of the order in which things were found.
-use Rattle.std.proofs.{Common.{Bool, true, false, cond, List, [], sym, ◌∙◌, IsPermutation}, lemmas.List.Sorted.IsPermutation-sym}
-use Rattle.std.proofs.lemmas.List.Sorted.{IsPermutation-trans, IsPermutation-refl, length_permutation, sum_by-IsPermutation}
+use Rattle.std.proofs.{Common.{arith, Bool, cond, List, [], sym, ◌∙◌, IsPermutation}, lemmas.Grind.common_steps}
+use Rattle.std.proofs.lemmas.List.Sorted.{IsPermutation-sym, IsPermutation-trans, length_permutation, sum_by-IsPermutation}
 use Rattle.lc_walk.proofs.{Joining.{tally_permuted, sums_permuted}, MovedLists.lists_moved}
 use Rattle.lc_walk.specs.FoundReports.{tallied_in, file_in, fault_in, directory_in, skipped_lines_in, entries_in, tallied_of, files_of}
 use Rattle.lc_walk.specs.FoundReports.{directories_of, skipped_lines_of, ReportLaw}
 
 cond_moved : {A : Type 0} (b : Bool) (xs ys : List A) → IsPermutation xs ys → IsPermutation (cond b xs []) (cond b ys [])
-cond_moved true xs ys m = m
-cond_moved false xs ys m = IsPermutation-refl []
+cond_moved b xs ys m = grind (arith, common_steps)
 
 -- reports of what was found in any order are the same
 pub report_law : ReportLaw

@@ -1,7 +1,7 @@
 -- The rows by which a worker ends its claims are lawful.
-use Rattle.std.proofs.Common.{◌≡◌, ℕ, ◌<◌, false, List, [], ◌++◌, length, map, take, cond, refl, sym, ◌∙◌, ap, subst, Option, Some, None}
-use Rattle.std.proofs.{Common.{Result, Ok, Err, inl, arith}, Math.Seq.take-length, lemmas.List.{length-map, length-take-le}}
-use Rattle.std.proofs.lemmas.List.Sorted.{IsPermutation-append_comm}
+use Rattle.std.proofs.{lemmas.{Grind.common_steps, List.{length-map, length-take-le, Sorted.IsPermutation-append_comm}}, Common.{◌≡◌, ℕ}}
+use Rattle.std.proofs.Common.{◌<◌, false, List, [], ◌++◌, length, map, take, cond, refl, sym, ◌∙◌, ap, subst, Option, Some, None, Result}
+use Rattle.std.proofs.{Common.{Ok, Err, arith}, Math.Seq.take-length}
 use Rattle.std.specs.declared.alloc.AllocError.{AllocError}
 use Rattle.lc_board.specs.{Holding.{job_held, posts_held}, Pass.{Pass, after_give, after_fault}}
 use Rattle.lc_tree.specs.Trees.{Listings, Contents}
@@ -27,48 +27,30 @@ module _ (ask : Asked) (lists : List ℕ → Listings) (gives : List ℕ → Con
 
   -- a directory was broken off before anything was posted
   memory_end : (p : Pass JobModel Row) (j : JobModel) (some : HasAnswers lists gives j.path) → HoldsJob j p → Lawful p j Memory some.0
-  memory_end p j some h = record {
-    job_is = h.job_is;
-    well_formed = some.2;
-    says = record { posted = 0; posts_are = ap jobs_of h.none; cause_is = tt };
-    may = some.1;
-  }
+  memory_end p j some h = grind (arith, common_steps)
 
   -- and with it the tally, whatever stood there
   pub serves_unasked : (p : Pass JobModel Row) (j : JobModel) (t : Option TallyModel) → HasAnswers lists gives j.path → HoldsJob j p
       → WorksOn ask (MayAnswer lists gives) p (after_give p (Broken (record { job = j; cause = Memory }))) t None
-  serves_unasked p j t some h =
-      works_give ask (MayAnswer lists gives) p _ some.0 t None (memory_end p j some h) (λ fs s. tt) (λ e. inl refl)
+  serves_unasked p j t some h = grind (arith, common_steps, works_give, memory_end)
 
   -- a directory was broken off before it was opened, for want of memory
   pub serves_unread : (p : Pass JobModel Row) (j : JobModel) (t : TallyModel) (result : Result (Unit {0}) AllocError)
       → HasAnswers lists gives j.path → HoldsJob j p → BreaksOff Memory result →
       Serves ask (MayAnswer lists gives) p (after_give p (Broken (record { job = j; cause = Memory }))) t t result
-  serves_unread p j t result some h g =
-      serves_broken ask (MayAnswer lists gives) p j Memory some.0 t t result (memory_end p j some h) g (λ n. refl)
+  serves_unread p j t result some h g = grind (arith, common_steps, serves_broken, memory_end)
 
   -- or since one of its entries is too deep
   pub serves_too_deep : (p : Pass JobModel Row) (j : JobModel) (t : TallyModel) (result : Result (Unit {0}) AllocError)
       → HoldsJob j p → OpensLevel lists gives ask.lists.left_out ask.filters j (Err open_fault.TooDeep) → BreaksOff TooDeep result →
       Serves ask (MayAnswer lists gives) p (after_give p (Broken (record { job = j; cause = TooDeep }))) t t result
-  serves_too_deep p j t result h o g =
-      serves_broken ask (MayAnswer lists gives) p j TooDeep o.0 t t result (record {
-        job_is = h.job_is;
-        well_formed = o.2;
-        says = record { posted = 0; posts_are = ap jobs_of h.none; cause_is = o.3 };
-        may = o.1;
-      }) g (λ n. refl)
+  serves_too_deep p j t result h o g = grind (arith, common_steps, serves_broken)
 
   -- a directory at fault
   pub serves_faulted : (p : Pass JobModel Row) (j : JobModel) (site : FaultSite) (word : FaultWord) (t : TallyModel) → HoldsJob j p →
       OpensLevel lists gives ask.lists.left_out ask.filters j (Err (open_fault.Faulted site word)) →
       WorksOn ask (MayAnswer lists gives) p (after_fault p (Faulted (record { job = j; site = site; word = word }))) (Some t) (Some t)
-  serves_faulted p j site word t h o = works_fault ask (MayAnswer lists gives) p _ o.0 (Some t) (record {
-    job_is = h.job_is;
-    well_formed = o.2;
-    says = record { level_is = o.3; posts_are = h.none };
-    may = o.1;
-  })
+  serves_faulted p j site word t h o = grind (arith, common_steps, works_fault)
 
   -- a directory was opened, and child directories were posted
   module _ (p q : Pass JobModel Row) (j : JobModel) (o : Opened) (h : HoldsJob j p)

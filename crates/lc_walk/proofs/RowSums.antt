@@ -1,4 +1,5 @@
 -- The sums of rows.
+use Rattle.std.proofs.lemmas.Grind.{common_steps}
 use Rattle.std.proofs.Common.{◌≡◌, ℕ, ◌+◌, ◌<◌, Bool, List, [], ◌∷◌, ◌++◌, refl, sym, ◌∙◌, ap, arith, length, subst, length-append}
 use Rattle.std.proofs.{Common.zero-add, lemmas.List.{get_or_append_left, get_or-append-add, Sums.sum_by-append}}
 use Rattle.std.proofs.lemmas.List.{Elements.{All-append, filter-append}, Sorted.{sum_by-IsPermutation, All-permutation}}
@@ -57,14 +58,11 @@ has_permuted xs ys moved = has_sums xs ys (λ p v sees adds. sum_by-IsPermutatio
 
 -- sums over the rows of both lists
 pub sums_of_both : (xs ys : List TallyRowModel) → sums_of_rows (xs ++ ys) ≡ plus (sums_of_rows xs) (sums_of_rows ys)
-sums_of_both xs ys = same_sums _ _ (sum_by-append (λ (r : TallyRowModel). r.sums.files) xs ys)
-    (sum_by-append (λ (r : TallyRowModel). r.sums.lines) xs ys) (sum_by-append (λ (r : TallyRowModel). r.sums.blank) xs ys)
-    (sum_by-append (λ (r : TallyRowModel). r.sums.bytes) xs ys)
+sums_of_both xs ys = grind (arith, common_steps, same_sums, sum_by-append)
 
 pub key_sums_of_both : (k : Key) (xs ys : List TallyRowModel)
     → sums_of_rows (rows_with k (xs ++ ys)) ≡ plus (sums_of_rows (rows_with k xs)) (sums_of_rows (rows_with k ys))
-key_sums_of_both k xs ys =
-    ap sums_of_rows (filter-append (λ (r : TallyRowModel). same_key k r.key) xs ys) ∙ sums_of_both (rows_with k xs) (rows_with k ys)
+key_sums_of_both k xs ys = grind (arith, common_steps, filter-append, sums_of_both)
 
 -- sums over one row
 pub sums_of_one : (r : TallyRowModel) → sums_of_rows (r ∷ []) ≡ r.sums

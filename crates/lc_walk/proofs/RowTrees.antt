@@ -1,5 +1,5 @@
 -- The answers of the tree of a walk's rows are some that its tree may give.
-use Rattle.std.proofs.Common.{◌≡◌, ◌≢◌, ℕ, List, [], ◌∷◌, refl, sym, ◌∙◌, ap, subst, Some, inl, inr}
+use Rattle.std.proofs.Common.{◌≡◌, ◌≢◌, ℕ, List, [], ◌∷◌, refl, sym, ◌∙◌, ap, subst, inl, inr}
 use Rattle.std.specs.List.{AllByRecursion}
 use Rattle.lc_board.specs.{ClosedBoard.Promises, LegalHistory.posts_under, State.{Absent, status}}
 use Rattle.lc_board.proofs.{PostedNumbers.{start, Known, known}, Weights.each-map}
@@ -9,11 +9,8 @@ use Rattle.lc_tree.specs.Trees.{Listings, Contents}
 use Rattle.lc_walk.specs.{FoundAt.LeadsTo, GivenAnswers.ByAnswersLaw, Lawful.{Asked, jobs_of}, Rows.{row_of, job_of}, TreeOfRows.tree_from}
 use Rattle.lc_walk.specs.{TreeOfRows.{children_by_rows, tree_of_rows}, ClosedWalks.AreWhole, BoardAnswers.SomeRows, WalkOptions.asked_by}
 use Rattle.lc_walk.specs.WalkOptions.{top_of}
-use Rattle.lc_walk.proofs.{NumbersReached.{Under, under_rows, same_head, same_tail}, Elements.In, FoundByPlace.level_by_child}
+use Rattle.lc_walk.proofs.{NumbersReached.{Under, under_rows, same_head, same_tail, same_some}, Elements.In, FoundByPlace.level_by_child}
 use Rattle.lc_walk.proofs.WalkOfRows.{row_here, job_or, job_at, inside, posted_at, job_at_top, fits}
-
-same_some : {A : Type 0} (x y : A) → Some x ≡ Some y → x ≡ y
-same_some x y e = cc
 
 module _ (lists : List ℕ → Listings) (gives : List ℕ → Contents) (ask : Asked) (capacity workers : ℕ) (top : JobModel)
     (promises : Promises) (found : SomeRows (MayAnswer lists gives) ask capacity workers top promises) (whole : AreWhole found.rows) where

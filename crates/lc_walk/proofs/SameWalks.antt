@@ -1,7 +1,7 @@
 -- A walk of some paths finds the same by any answers that give the same levels.
-use Rattle.std.proofs.Common.{◌≡◌, ℕ, zero, suc, List, [], ◌∷◌, ◌++◌, refl, sym, ◌∙◌, ap, subst, inl, inr, Some, None}
-use Rattle.lc_level.specs.{Answers.{Item, directory_item, Answers, Tree}, Job.JobModel, Level.level, Narrowing.part_of}
-use Rattle.lc_level.specs.Filters.{FiltersModel, narrowed}
+use Rattle.std.proofs.Common.{arith, ◌≡◌, ℕ, zero, suc, List, [], ◌∷◌, ◌++◌, refl, sym, ◌∙◌, ap, subst, inr, Some, None}
+use Rattle.std.proofs.lemmas.Grind.{common_steps}
+use Rattle.lc_level.specs.{Answers.{Answers, Tree}, Job.JobModel, Level.level, Filters.{FiltersModel, narrowed}}
 use Rattle.lc_level.proofs.AskedPaths.{all_take_part}
 use Rattle.lc_walk.specs.{Found.{Found, found_of, found_at, children_of, children_at}, FoundAt.{WalksInto, LeadsTo}, PartOfWalk.AnswerAlike}
 use Rattle.lc_walk.specs.{PartOfWalk.part_walk, RecursiveWalk.{walks_below, walk_of}}
@@ -16,14 +16,7 @@ module _ (s : FiltersModel) (only : List (List ℕ)) where
 
   -- a directory that a walk of some paths goes into the walk of the whole tree goes into
   into_whole : (j : JobModel) (a : Answers) (n : List ℕ) (inside : JobModel) → WalksInto part j a n inside → WalksInto whole j a n inside
-  into_whole j a n inside l = record {
-    items = l.items;
-    listed = l.listed;
-    has = contains (directory_item n) (part_of None j.path l.items)
-        (subst (λ (xs : List Item). In (directory_item n) xs) (sym (all_take_part j.path l.items))
-        (in_filter _ (directory_item n) l.items (is_in (directory_item n) (part_of (Some only) j.path l.items) l.has)).0);
-    taken = l.taken;
-  }
+  into_whole j a n inside l = grind (arith, common_steps, contains, all_take_part, in_filter, is_in)
 
   abbrev Alike : JobModel → Tree → Tree → Type 0
   Alike j t u =
@@ -50,9 +43,7 @@ module _ (s : FiltersModel) (only : List (List ℕ)) where
       → ((c : List ℕ × JobModel) → In c cs → walk c.1 (λ p. u (c.0 ∷ p)) ≡ walk c.1 (λ p. t (c.0 ∷ p)))
       → below walk u cs ≡ below walk t cs
   same_below walk t u [] same = refl
-  same_below walk t u (c ∷ cs) same =
-      ap (λ (xs : List Found). xs ++ below walk u cs) (same c (inl refl))
-      ∙ ap (λ (xs : List Found). walk c.1 (λ p. t (c.0 ∷ p)) ++ xs) (same_below walk t u cs (λ d has. same d (inr has)))
+  same_below walk t u (c ∷ cs) same = grind (arith, common_steps, same_below walk t u cs (λ d has. same d (inr has)))
 
   same_from : (depth : ℕ) (j : JobModel) (t u : Tree) → Alike j t u → walk_of part depth j u ≡ walk_of part depth j t
   same_from zero j t u alike = refl

@@ -1,39 +1,25 @@
 -- The items of a directory that take part in a walk.
-use Rattle.std.proofs.Common.{◌≡◌, ℕ, Bool, true, false, cond, List, [], ◌∷◌, refl, sym, ◌∙◌, ap, subst, bytes_eq, inl, inr, Option}
+use Rattle.std.proofs.Common.{arith, ◌≡◌, ℕ, Bool, true, false, cond, List, [], ◌∷◌, refl, sym, ◌∙◌, ap, inl, inr, Option}
+use Rattle.std.proofs.lemmas.Grind.{common_steps}
 use Rattle.std.specs.List.{filter, AllByRecursion}
-use Rattle.lc_level.specs.{Answers.{Item, name_of}, Narrowing.part_of}
+use Rattle.lc_level.specs.{Answers.Item, Narrowing.part_of}
 use Rattle.lc_level.proofs.WellFormed.{Spread}
 use Rattle.lc_walk.proofs.Elements.{In}
 
 -- what holds of all holds of what passes a test
 pub each_filter : {X : Type 0} (P : X → Type 0) (p : X → Bool) (xs : List X) → AllByRecursion P xs → AllByRecursion P (filter p xs)
 each_filter P p [] a = tt
-each_filter {X} P p (x ∷ xs) a = at (p x) (each_filter P p xs a.1)
-  where
-    at : (b : Bool) → AllByRecursion P (filter p xs) → AllByRecursion P (cond b (x ∷ filter p xs) (filter p xs))
-    at true rest = (a.0, rest)
-    at false rest = rest
+each_filter {X} P p (x ∷ xs) a = grind (arith, common_steps, each_filter P p xs a.1)
 
 -- and so does the test
 pub each_passes : {X : Type 0} (p : X → Bool) (xs : List X) → AllByRecursion (λ x. p x ≡ true) (filter p xs)
 each_passes p [] = tt
-each_passes {X} p (x ∷ xs) = at (p x) refl (each_passes p xs)
-  where
-    at : (b : Bool) → p x ≡ b → AllByRecursion (λ y. p y ≡ true) (filter p xs)
-        → AllByRecursion (λ y. p y ≡ true) (cond b (x ∷ filter p xs) (filter p xs))
-    at true e rest = (e, rest)
-    at false e rest = rest
+each_passes {X} p (x ∷ xs) = grind (arith, common_steps, each_passes p xs)
 
 -- an element that passes a test is one of all, and passes
 pub in_filter : {X : Type 0} (p : X → Bool) (x : X) (xs : List X) → In x (filter p xs) → In x xs × (p x ≡ true)
 in_filter p x [] i = absurd i
-in_filter {X} p x (y ∷ ys) i = at (p y) refl i (in_filter p x ys)
-  where
-    at : (b : Bool) → p y ≡ b → In x (cond b (y ∷ filter p ys) (filter p ys)) → (In x (filter p ys) → In x ys × (p x ≡ true))
-        → In x (y ∷ ys) × (p x ≡ true)
-    at true e (inl s) rest = (inl s, subst (λ z. p z ≡ true) s e)
-    at true e (inr j) rest = let r = rest j in (inr r.0, r.1)
-    at false e j rest = let r = rest j in (inr r.0, r.1)
+in_filter {X} p x (y ∷ ys) i = grind (arith, common_steps, in_filter p x ys)
 
 -- and the other way round
 pub of_filter : {X : Type 0} (p : X → Bool) (x : X) (xs : List X) → In x xs → p x ≡ true → In x (filter p xs)
@@ -48,11 +34,7 @@ of_filter {X} p x (y ∷ ys) i e = at (p y) refl i (λ j. of_filter p x ys j e)
 
 spread_filter : (p : Item → Bool) (es : List Item) → Spread es → Spread (filter p es)
 spread_filter p [] s = tt
-spread_filter p (e ∷ es) s = at (p e) (spread_filter p es s.2)
-  where
-    at : (b : Bool) → Spread (filter p es) → Spread (cond b (e ∷ filter p es) (filter p es))
-    at true rest = (each_filter (λ d. bytes_eq (name_of d) (name_of e) ≡ false) p es s.0, s.1, rest)
-    at false rest = rest
+spread_filter p (e ∷ es) s = grind (arith, common_steps, each_filter, spread_filter p es s.2)
 
 -- where the names of items are good and no two the same, so are those of the items that take part
 pub spread_part : (only : Option (List (List ℕ))) (d : List ℕ) (es : List Item) → Spread es → Spread (part_of only d es)

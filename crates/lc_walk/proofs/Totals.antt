@@ -1,7 +1,7 @@
 -- Rows that have the same sums for each key have the same totals.
-use Rattle.std.proofs.Common.{◌≡◌, ℕ, ◌+◌, Bool, true, false, cond, List, [], ◌∷◌, ◌++◌, refl, sym, ◌∙◌, ap, arith}
-use Rattle.std.proofs.lemmas.List.Sums.{sum_by-cons}
-use Rattle.std.specs.{List.{filter, sum_by}, Ordering.is_eq, declared.cmp.Ordering.{Ordering, TheVariants.{Less, Equal, Greater}}}
+use Rattle.std.proofs.{lemmas.{Grind.common_steps, List.Sums.sum_by-cons}, Common.{◌≡◌, ℕ, ◌+◌, Bool, true, false, cond, List, [], ◌∷◌}}
+use Rattle.std.proofs.Common.{◌++◌, refl, sym, ◌∙◌, ap, arith}
+use Rattle.std.specs.{List.sum_by, Ordering.is_eq, declared.cmp.Ordering.{Ordering, TheVariants.{Less, Equal, Greater}}}
 use Rattle.lc_walk.proofs.{Filtered.{part, sum_by-filter}, Keys.{key_cmp_total, same_to_all, equal_if}, RowSums.{same_sums, sums_of_both}}
 use Rattle.lc_walk.proofs.RowSums.{sums_of_one}
 use Rattle.lc_walk.specs.{Key.{Key, key_cmp, same_key}, Sums.plus, TallyRows.{TallyRowModel, sums_of_rows, rows_with, Gains, row_with}}
@@ -17,11 +17,7 @@ same_self k = own (key_cmp k k) (key_cmp_total.antisymm k k) where
 
 -- sums of the same numbers are the same
 sum_same : {X : Type 0} (f g : X → ℕ) → ((x : X) → f x ≡ g x) → (xs : List X) → sum_by f xs ≡ sum_by g xs
-sum_same f g same [] = refl
-sum_same f g same (x ∷ xs) =
-    let e = same x in
-    let rest = sum_same f g same xs in
-    omega (arith, sum_by-cons f x xs, sum_by-cons g x xs)
+sum_same f g same xs = grind (arith, common_steps, sum_by-cons)
 
 sum_none : {X : Type 0} (xs : List X) → sum_by (λ _. 0) xs ≡ 0
 sum_none [] = refl
@@ -55,19 +51,9 @@ at_but : (v : TallyRowModel → ℕ) (j k : Key) (b : Bool) → same_key j k ≡
 at_but v j k true e rs = sum_same (at (but v k) j) (λ _. 0) (λ r. at_but_row v j k r true e _ refl) rs ∙ sum_none rs
 at_but v j k false e rs = sum_same (at (but v k) j) (at v j) (λ r. at_but_row v j k r false e _ refl) rs
 
--- a number is what it gives to a key and what it gives to all others
-split_row : (v : TallyRowModel → ℕ) (k : Key) (r : TallyRowModel) → v r ≡ at v k r + but v k r
-split_row v k r = parts (same_key k r.key) where
-  parts : (b : Bool) → v r ≡ cond b (v r) 0 + cond b 0 (v r)
-  parts true = omega arith
-  parts false = omega arith
-
 split : (v : TallyRowModel → ℕ) (k : Key) (rs : List TallyRowModel) → sum_by v rs ≡ sum_by (at v k) rs + sum_by (but v k) rs
 split v k [] = refl
-split v k (r ∷ rs) =
-    let first = split_row v k r in
-    let rest = split v k rs in
-    omega (arith, sum_by-cons v r rs, sum_by-cons (at v k) r rs, sum_by-cons (but v k) r rs)
+split v k (r ∷ rs) = grind (arith, common_steps, sum_by-cons, split v k rs)
 
 own_part : (v : TallyRowModel → ℕ) (r : TallyRowModel) → at v r.key r ≡ v r
 own_part v r = ap (λ b. cond b (v r) 0) (same_self r.key)
@@ -85,8 +71,7 @@ no_sum v (r ∷ rs) none =
     omega (arith, sum_by-cons v r rs, sum_by-cons (at v r.key) r rs)
 
 either_way : (n : ℕ) (b : Bool) → cond b n n ≡ n
-either_way n true = refl
-either_way n false = refl
+either_way n b = grind (arith, common_steps)
 
 -- without its key a row gives nothing
 no_part : (v : TallyRowModel → ℕ) (r : TallyRowModel) (j : Key) → at (but v r.key) j r ≡ 0
@@ -114,11 +99,7 @@ by_key v xs ys same =
 -- the same sums for each key are the same totals
 pub same_totals : (xs ys : List TallyRowModel) → ((k : Key) → sums_of_rows (rows_with k xs) ≡ sums_of_rows (rows_with k ys))
     → sums_of_rows xs ≡ sums_of_rows ys
-same_totals xs ys same =
-    same_sums _ _ (by_key (λ r. r.sums.files) xs ys (λ k. ap (λ (s : Sums). s.files) (same k)))
-    (by_key (λ r. r.sums.lines) xs ys (λ k. ap (λ (s : Sums). s.lines) (same k)))
-    (by_key (λ r. r.sums.blank) xs ys (λ k. ap (λ (s : Sums). s.blank) (same k)))
-    (by_key (λ r. r.sums.bytes) xs ys (λ k. ap (λ (s : Sums). s.bytes) (same k)))
+same_totals xs ys same = grind (arith, common_steps, same_sums, by_key)
 
 -- what all sums have gained where those of one key have
 pub totals_gained : (old new : List TallyRowModel) (k : Key) (s : Sums) → Gains old new k s

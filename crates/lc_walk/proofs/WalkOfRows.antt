@@ -1,24 +1,20 @@
 -- The laws of the walk.
-use Rattle.std.proofs.Common.{◌≡◌, ◌≢◌, ℕ, zero, suc, ◌<◌, ◌≤◌, Bool, List, [], ◌∷◌, ◌++◌, length, slice_get, refl, sym, ◌∙◌, ap, arith}
-use Rattle.std.proofs.{Common.{subst, Option, Some, None, ◌⊎◌, inl, inr, IsPermutation, append-nil}, lemmas.Bool.cases_lt}
+use Rattle.std.proofs.{lemmas.{Grind.common_steps, Bool.cases_lt}, Common.{◌≡◌, ◌≢◌, ℕ, zero, suc, ◌<◌, ◌≤◌, Bool, List, [], ◌∷◌, ◌++◌}}
+use Rattle.std.proofs.Common.{length, slice_get, refl, sym, ◌∙◌, ap, arith, subst, Option, Some, None, IsPermutation, append-nil}
 use Rattle.std.specs.List.{flat_map, AllByRecursion}
-use Rattle.lc_board.specs.{State.{Absent, status}, LegalHistory.posts_under, Part.part, RowsInPlace.job_posted, Laws.SaysSame}
-use Rattle.lc_board.specs.declared.{event.Event.Event, answers.Ended.Ended}
-use Rattle.lc_board.proofs.{PartsOfWhole.part_says_whole, Weights.{each-map, each-append, flat_map-on, times, permuted, permuted_lists}}
+use Rattle.lc_board.specs.{State.{Absent, status}, LegalHistory.posts_under, RowsInPlace.job_posted, declared.event.Event.Event}
+use Rattle.lc_board.specs.declared.answers.Ended.{Ended}
+use Rattle.lc_board.proofs.{PartsOfWhole.part_says_whole, Weights.{each-map, flat_map-on, times, permuted, permuted_lists}}
 use Rattle.lc_board.proofs.PostedNumbers.{start, top_posted, Known, known}
 use Rattle.lc_tree.specs.Paths.{names_of_path}
-use Rattle.lc_level.specs.{Answers.{Answers, no_answers, Tree}, Job.JobModel, Level.{level, walked_in}}
+use Rattle.lc_level.specs.{Answers.{Answers, no_answers, Tree}, Job.JobModel, Level.level}
 use Rattle.lc_walk.specs.{Found.{Found, found_of, found_at, children_of, children_at}, RecursiveWalk.walk_of, RowViews.ChildModel}
 use Rattle.lc_walk.specs.{Rows.{row_of, job_of, children_in, IsWhole}, Lawful.{Asked, Says, named, jobs_of}, TreeOfRows.child_number}
-use Rattle.lc_walk.specs.{TreeOfRows.{tree_from, children_at_row, children_by_rows, tree_of_rows, numbers_below}, ClosedWalks.Walked}
-use Rattle.lc_walk.specs.{ClosedWalks.{AreWhole, row_found, rows_found}, Laws.{CoreLaw, NumbersLaw, OneAnswerLaw, PartLaw, walk_numbers}}
-use Rattle.lc_walk.specs.declared.row.Row.{Row, TheVariants.{Listed, Faulted, Broken}}
+use Rattle.lc_walk.specs.{TreeOfRows.{tree_from, children_by_rows, tree_of_rows, numbers_below}, ClosedWalks.{Walked, AreWhole, row_found}}
+use Rattle.lc_walk.specs.{ClosedWalks.rows_found, Laws.{CoreLaw, NumbersLaw, OneAnswerLaw, PartLaw, walk_numbers}, declared.row.Row.Row}
 use Rattle.lc_walk.proofs.{Reach.{reach, reach_times}, Levels.{apart_level, good_level, IsChild}, Places.names_of_path-path_in}
 use Rattle.lc_walk.proofs.NumbersReached.{Grows, walk_is, Finds, finds, under_rows, PlacedUnder, under_places, same_head, same_tail}
-use Rattle.lc_board.specs.declared.answers.Ended.TheVariants as ended
-
-same_some : {A : Type 0} (x y : A) → Some x ≡ Some y → x ≡ y
-same_some x y e = cc
+use Rattle.lc_walk.proofs.{NumbersReached.same_some, Listings.below_all}
 
 -- ---- the row of a number
 
@@ -32,16 +28,7 @@ pub record Parts (ask : Asked) (e : Ended Row) (a : Answers) (posts : List (ℕ 
 -- a whole row that says the truth has these parts
 pub parts : (ask : Asked) (full : Bool) (e : Ended Row) (a : Answers) (posts : List (ℕ × JobModel)) → Says ask full e a posts
     → IsWhole (row_of e) → Parts ask e a posts
-parts ask full (ended.Returned (Listed r)) a posts s w =
-    let walked : walked_in s.fates ≡ children_at ask.filters r.job a = sym (ap children_of s.level_is) in
-    record { jobs = s.posts_are ∙ ap jobs_of walked; children = s.children_are ∙ ap (λ cs. named cs posts) walked }
-parts ask full (ended.Returned (Faulted r)) a posts s w = absurd s
-parts ask full (ended.Returned (Broken r)) a posts s w = absurd w
-parts ask full (ended.Faulted (Listed r)) a posts s w = absurd s
-parts ask full (ended.Faulted (Faulted r)) a posts s w =
-    let none : children_at ask.filters r.job a ≡ [] = ap children_of s.level_is in
-    record { jobs = ap jobs_of s.posts_are ∙ ap jobs_of (sym none); children = ap (λ cs. named cs posts) (sym none) }
-parts ask full (ended.Faulted (Broken r)) a posts s w = absurd w
+parts ask full e a posts s w = grind (arith, common_steps)
 
 pub record Here (rows : List (Ended Row)) (i : ℕ) : Type 0 where
   -- a row
@@ -67,11 +54,7 @@ module _ (ask : Asked) (full : Bool) (capacity workers : ℕ) (top : JobModel) (
 
   -- a number that is not absent has a row
   pub inside : (i : ℕ) → status h i ≢ Absent → i < length rows
-  inside i a = at (cases_lt i (length rows))
-    where
-      at : (i < length rows) ⊎ (length rows ≤ i) → i < length rows
-      at (inl b) = b
-      at (inr b) = absurd (a ((walked.numbers i).1 b))
+  inside i a = grind (arith, common_steps, cases_lt)
 
   -- and a number with a row is not absent
   pub there : (i : ℕ) → i < length rows → status h i ≢ Absent
@@ -112,8 +95,7 @@ module _ (ask : Asked) (full : Bool) (capacity workers : ℕ) (top : JobModel) (
         let lawful = walked.lawful i r.row r.is in
         let p = parts ask full r.row (answers i) (posts_under i h) lawful.says (whole i r.row r.is) in
         let job : job_of (row_of r.row) ≡ job_at i = ap (job_or top) (sym r.is) in
-        let children : children_by_rows rows i ≡ named (children_of_number i) (posts_under i h) =
-        ap children_at_row r.is ∙ p.children ∙ ap (λ j. named (children_at ask.filters j (answers i)) (posts_under i h)) job in
+        let children : children_by_rows rows i ≡ named (children_of_number i) (posts_under i h) = grind (arith, common_steps) in
         record {
           jobs = p.jobs ∙ ap (λ j. jobs_of (children_at ask.filters j (answers i))) job;
           children = children;
@@ -138,29 +120,18 @@ module _ (ask : Asked) (full : Bool) (capacity workers : ℕ) (top : JobModel) (
     abbrev gives_number : ℕ → List Found
     gives_number i = found_at ask.filters (job_at i) (answers i)
 
-    all_below : (n : ℕ) → AllByRecursion (λ i. i < n) (numbers_below n)
-    all_below zero = tt
-    all_below (suc n) = each-append (λ i. i < suc n) (numbers_below n) (n ∷ [])
-        (each-map (λ i. i < n) (λ i. i < suc n) (λ i b. omega arith) (numbers_below n) (all_below n)) (omega arith, tt)
-
     one_found : (i : ℕ) → i < length rows → gives_number i ≡ row_found ask (slice_get rows i) (answers i)
     one_found i b =
         let r = row_here rows i b in
         ap (λ o. found_at ask.filters (job_or top o) (answers i)) r.is ∙ sym (ap (λ o. row_found ask o (answers i)) r.is)
 
     found_by_number : flat_map gives_number (numbers_below (length rows)) ≡ rows_found ask rows answers
-    found_by_number =
-        flat_map-on gives_number (λ i. row_found ask (slice_get rows i) (answers i)) (numbers_below (length rows))
-        (each-map (λ i. i < length rows) (λ i. gives_number i ≡ row_found ask (slice_get rows i) (answers i)) one_found
-        (numbers_below (length rows)) (all_below (length rows)))
+    found_by_number = grind (arith, common_steps, flat_map-on, each-map, one_found, below_all)
 
     -- a walk that finds what the numbers give that are reached
     by_reach : (depth : ℕ) → capacity ≤ depth → (xs : List Found) → xs ≡ flat_map gives_number (reach h depth 0)
         → IsPermutation xs (rows_found ask rows answers)
-    by_reach depth deep xs e =
-        subst (λ l. IsPermutation l (rows_found ask rows answers)) (sym e)
-        (subst (IsPermutation (flat_map gives_number (reach h depth 0))) found_by_number
-        (permuted_lists gives_number (reach h depth 0) (numbers_below (length rows)) (times_same depth deep)))
+    by_reach depth deep xs e = grind (arith, common_steps, reach, found_by_number, permuted_lists, times_same)
 
     -- the walk of the tree of rows finds what the rows found
     pub of_rows : (depth : ℕ) → capacity ≤ depth
@@ -241,15 +212,12 @@ module _ (ask : Asked) (full : Bool) (capacity workers : ℕ) (top : JobModel) (
         (λ i p. t (place_at i ++ p)) walked.legal
         posted_at (λ i a. (fits i a).jobs) tree_grows depth 0 (start h))
       where
-        nil_end : {A : Type 0} (xs : List A) → xs ++ [] ≡ xs
-        nil_end xs = append-nil xs
-
         at_level : (i : ℕ) → status h i ≢ Absent
             → level ask.filters (job_at i) (t (place_at i ++ [])) ≡ level ask.filters (job_at i) (answers i)
         at_level i a =
             let r = row_here rows i (inside i a) in
             let job : job_of (row_of r.row) ≡ job_at i = ap (job_or top) (sym r.is) in
-            ap (λ p. level ask.filters (job_at i) (t p)) (nil_end (place_at i))
+            ap (λ p. level ask.filters (job_at i) (t p)) (append-nil (place_at i))
             ∙ subst (λ j. level ask.filters j (t (names_of_path j.path)) ≡ level ask.filters j (answers i)) job
             (sym (agree i r.row r.is))
 
@@ -281,10 +249,4 @@ one_answer_law t ask full capacity workers top h rows answers walked whole at_to
 
 -- what is lawful in a part is lawful in the whole history
 pub part_law : PartLaw
-part_law ask full capacity workers w i h e a legal k =
-    let same : SaysSame i h (part w h) = part_says_whole capacity workers h legal w i (job_of (row_of e)) k.job_is in
-    record {
-      job_is = sym same.got ∙ k.job_is;
-      well_formed = k.well_formed;
-      says = subst (λ ps. Says ask full e a ps) same.posts k.says;
-    }
+part_law = grind (arith, common_steps, part_says_whole)

@@ -1,10 +1,9 @@
 -- Recursive walks by parts of what each directory gives.
+use Rattle.std.proofs.lemmas.Grind.{common_steps}
 use Rattle.std.proofs.Common.{◌≡◌, ℕ, zero, suc, ◌≤◌, List, [], ◌∷◌, ◌++◌, map, length, refl, sym, ◌∙◌, ap, subst, arith, append_assoc}
 use Rattle.std.proofs.{Common.{IsPermutation, length-append}, lemmas.List.map-append}
 use Rattle.std.proofs.lemmas.List.Sorted.{IsPermutation-refl, IsPermutation-trans, IsPermutation-append, IsPermutation-append_comm}
 use Rattle.std.proofs.lemmas.List.Sorted.{IsPermutation-append_left, IsPermutation-append_right}
-use Rattle.std.specs.List.{AllByRecursion}
-use Rattle.lc_board.proofs.Weights.{each-append}
 use Rattle.lc_walk.specs.RecursiveWalk.{walks_below, walk_by}
 
 -- two lists of two parts each, part by part
@@ -53,12 +52,7 @@ module _ {J N A : Type 0} (children : J → A → List (N × J)) where
         walks_below (λ k a. map f (found k a)) children (walk_by (λ k a. map f (found k a)) children depth) t cs
         ≡ map f (walks_below found children (walk_by found children depth) t cs)
     below_maps depth t [] known = refl
-    below_maps depth t (c ∷ cs) known =
-        ap (λ l. l ++ walks_below (λ k a. map f (found k a)) children (walk_by (λ k a. map f (found k a)) children depth) t cs)
-        (known c.1 (λ place. t (c.0 ∷ place)))
-        ∙ ap (λ l. map f (walk_by found children depth c.1 (λ place. t (c.0 ∷ place))) ++ l) (below_maps depth t cs known)
-        ∙ sym (map-append f (walk_by found children depth c.1 (λ place. t (c.0 ∷ place)))
-        (walks_below found children (walk_by found children depth) t cs))
+    below_maps depth t (c ∷ cs) known = grind (arith, common_steps, map-append, below_maps depth t cs known)
 
     -- what is made of each thing that a directory gives is made of each thing that a walk finds
     pub walk_maps : (depth : ℕ) (j : J) (t : List N → A) →
@@ -74,16 +68,7 @@ module _ {J N A : Type 0} (children : J → A → List (N × J)) where
         length (walks_below found children (walk_by found children depth) t cs)
         ≤ length (walks_below found children (walk_by found children (suc depth)) t cs)
     below_grows depth t [] known = omega arith
-    below_grows depth t (c ∷ cs) known =
-        omega (
-          arith,
-          known c.1 (λ place. t (c.0 ∷ place)),
-          below_grows depth t cs known,
-          length-append (walk_by found children depth c.1 (λ place. t (c.0 ∷ place)))
-              (walks_below found children (walk_by found children depth) t cs),
-          length-append (walk_by found children (suc depth) c.1 (λ place. t (c.0 ∷ place)))
-              (walks_below found children (walk_by found children (suc depth)) t cs),
-        )
+    below_grows depth t (c ∷ cs) known = grind (arith, common_steps, length-append, below_grows depth t cs known)
 
     -- a walk that goes a level deeper finds no fewer things
     pub walk_grows : (depth : ℕ) (j : J) (t : List N → A) →
@@ -96,17 +81,3 @@ module _ {J N A : Type 0} (children : J → A → List (N × J)) where
           length-append (found j (t [])) (walks_below found children (walk_by found children depth) t (children j (t []))),
           length-append (found j (t [])) (walks_below found children (walk_by found children (suc depth)) t (children j (t []))),
         )
-
-    each_below : (P : X → Type 0) (depth : ℕ) (t : List N → A) (cs : List (N × J)) →
-        ((j : J) (u : List N → A) → AllByRecursion P (walk_by found children depth j u)) →
-        AllByRecursion P (walks_below found children (walk_by found children depth) t cs)
-    each_below P depth t [] known = tt
-    each_below P depth t (c ∷ cs) known = each-append P _ _ (known c.1 (λ place. t (c.0 ∷ place))) (each_below P depth t cs known)
-
-    -- what holds of all that any directory gives holds of all that a walk finds
-    pub walk_each : (P : X → Type 0) → ((j : J) (a : A) → AllByRecursion P (found j a)) → (depth : ℕ) (j : J) (t : List N → A) →
-        AllByRecursion P (walk_by found children depth j t)
-    walk_each P each zero j t = tt
-    walk_each P each (suc depth) j t =
-        each-append P (found j (t [])) _ (each j (t []))
-        (each_below P depth t (children j (t [])) (λ k u. walk_each P each depth k u))

@@ -22,9 +22,6 @@ binary_sums rs = sums_of_rows (filter is_binary rs)
 abbrev pub classes_of : List TallyRowModel → ClassSums
 classes_of rs = record { text = text_sums rs; binary = binary_sums rs }
 
-abbrev pub no_classes : ClassSums
-no_classes = record { text = no_files; binary = no_files }
-
 -- those of the files of one row
 abbrev pub one_class : TallyRowModel → ClassSums
 one_class r = record {

@@ -82,15 +82,6 @@ impl RowParts {
             Err(refused) => Err(refused.value.job),
         }
     }
-
-    fn into_job(self) -> ServedJob
-        ensures { result ≡ (listed_in self).job }
-    {
-        match self {
-            RowParts::Bare { job, .. } => job,
-            RowParts::Full(parts) => Box::into_inner(parts).job,
-        }
-    }
 }
 
 /// The row that a worker adds for a directory that it listed. The row has the size of one pointer, so that it takes little room on a board.
@@ -118,7 +109,10 @@ impl ListedRow {
         let parts = RowParts::new(alloc, parts)?;
         match Box::new(alloc, parts) {
             Ok(parts) => Ok(ListedRow { parts }),
-            Err(refused) => Err(refused.value.into_job()),
+            Err(refused) => match refused.value {
+                RowParts::Bare { job, .. } => Err(job),
+                RowParts::Full(parts) => Err(Box::into_inner(parts).job),
+            },
         }
     }
 

@@ -75,20 +75,12 @@ fn join<P: Drop>(gathered: Gathered<P>, worked: WorkerResult<P>) -> Option<Gathe
         end,
         tally: own,
     } = worked;
-    match end {
-        StopReason::Over => {}
-        StopReason::Memory => return None,
-    }
-    let Some(own) = own else {
+    let StopReason::Over = end else {
         return None;
     };
-    let Some(tally) = merge(tally, own) else {
-        return None;
-    };
-    match passes.push(pass) {
-        Ok(()) => Some(Gathered { passes, tally }),
-        Err(_) => None,
-    }
+    let tally = merge(tally, own?)?;
+    passes.push(pass).ok()?;
+    Some(Gathered { passes, tally })
 }
 
 /// Gathers the passes and the tallies of all workers. Returns `None` if a worker ran out of memory, or if an allocation fails here.

@@ -23,8 +23,7 @@ fn is_broken_by(row: &Row, cause: BrokenCause) -> bool
     ensures other { result ≡ false → IsBrokenBy cause row.now → ⊥ }
 {
     match row {
-        Row::Listed(_) => false,
-        Row::Faulted(_) => false,
+        Row::Listed(_) | Row::Faulted(_) => false,
         Row::Broken(row) => row.cause == cause,
     }
 }

@@ -1,6 +1,6 @@
 //! Checking that the rows that workers added to a board, one row for each directory, make one tree of directories.
-ghost use Rattle.std.specs.Prelude.{◌≡◌, ◌≢◌, ℕ, ◌+◌, ◌<◌, ◌≤◌, ◌^◌, List, true, false, length, slice_get, slice_set, replicate, Some};
-ghost use Rattle.std.specs.Prelude.{IfOk, IfErr, OnOk, OnErr};
+ghost use Rattle.std.specs.Prelude.{◌≡◌, ◌≢◌, ℕ, ◌+◌, ◌<◌, ◌≤◌, ◌^◌, true, false, length, slice_get, Some};
+ghost use Rattle.std.specs.Prelude.{IfOk, IfErr, OnOk};
 ghost use Rattle.lc_walk.specs.Rows.{row_of, job_of, children_in};
 ghost use Rattle.lc_glob.specs.Path.{path_in};
 ghost use Rattle.lc_walk.specs.Assembled.{IsPlaced};
@@ -10,7 +10,7 @@ use crate::report::row_lines::row_of;
 use crate::row::{Child, Row};
 use lc_board::Ended;
 use lc_level::relative_to;
-use std::alloc::{AllocError, Global};
+use std::alloc::Global;
 
 /// Why `check_tree` returns an error for the rows of a board.
 #[derive(Clone, Copy, PartialEq, Eq, Debug, Drop)]
@@ -39,8 +39,7 @@ pub fn children_of(row: &Row) -> &[Child]
 {
     match row {
         Row::Listed(row) => row.children(),
-        Row::Faulted(_) => &[],
-        Row::Broken(_) => &[],
+        Row::Faulted(_) | Row::Broken(_) => &[],
     }
 }
 
@@ -55,25 +54,11 @@ fn is_child_path(directory: &[u8], child: &Child, path: &[u8]) -> bool
     }
 }
 
-fn number_of(child: &Child) -> usize
-    ensures same { result ≡ child.now.number }
-    ensures few { result < 2 ^ 32 }
-{
-    child.number as usize
-}
-
 fn is_marked(linked: &[bool], at: usize) -> bool
     requires { at < length linked.now }
     ensures { slice_get linked.now at ≡ Some result }
 {
     linked[at]
-}
-
-fn mark(linked: &mut [bool], at: usize)
-    requires { at < length linked.old }
-    ensures { linked.new ≡ slice_set linked.old at true }
-{
-    linked[at] = true;
 }
 
 /// Returns the path of the directory with the number `at`.
@@ -99,7 +84,7 @@ fn link(
     ensures marks { OnOk result (AreLinked rows.now at (place + 1) linked.new) }
     ensures torn { IfErr result (RefusesTree rows.now) }
 {
-    let number = number_of(child);
+    let number = child.number as usize;
     if number == 0 {
         return Ok(());
     }
@@ -116,7 +101,7 @@ fn link(
     if !is_child_path(path_at(rows, at), child, path) {
         return Err(TreeFault::Torn(number as u32));
     }
-    mark(linked, number);
+    linked[number] = true;
     Ok(())
 }
 
@@ -135,19 +120,13 @@ fn link_row(rows: &[Ended<Row>], at: usize, linked: &mut [bool]) -> Result<(), T
     Ok(())
 }
 
-fn no_marks(alloc: Global, count: usize) -> Result<Vec<bool>, AllocError>
-    ensures { IfOk result (λ linked. linked.items ≡ replicate count false) }
-{
-    Ok(vec![in alloc; false; count]?)
-}
-
 /// Returns a mark for each number, which says whether some row names the directory with this number as a child.
 fn link_all(alloc: Global, rows: &[Ended<Row>]) -> Result<Vec<bool>, TreeFault>
     requires few { length rows.now ≤ 2 ^ 32 }
     ensures marks { IfOk result (λ linked. AreLinked rows.now (length rows.now) 0 linked.items) }
     ensures torn { IfErr result (RefusesTree rows.now) }
 {
-    let Ok(mut linked) = no_marks(alloc, rows.len()) else {
+    let Ok(mut linked) = vec![in alloc; false; rows.len()] else {
         return Err(TreeFault::Memory);
     };
     for at in 0..rows.len() {

@@ -1,6 +1,6 @@
 //! The sums over text files, and over binary files.
 ghost use Rattle.std.specs.Prelude.{◌≡◌, MatchOption};
-ghost use Rattle.lc_walk.specs.Classes.{ClassesFit, both_classes, classes_of, no_classes, one_class};
+ghost use Rattle.lc_walk.specs.Classes.{ClassesFit, both_classes, classes_of, one_class};
 
 use crate::tally::sums::Sums;
 use crate::tally::tally_row::TallyRow;
@@ -16,15 +16,6 @@ pub struct ClassSums {
 }
 
 impl ClassSums {
-    fn none() -> ClassSums
-        ensures { result ≡ no_classes }
-    {
-        ClassSums {
-            text: Sums::none(),
-            binary: Sums::none(),
-        }
-    }
-
     fn of_row(row: &TallyRow) -> ClassSums
         ensures { result ≡ one_class row.now }
     {
@@ -55,7 +46,10 @@ impl ClassSums {
     pub fn of(rows: &[TallyRow]) -> Option<ClassSums>
         ensures { MatchOption result (ClassesFit (classes_of rows.now) → ⊥) (λ sums. sums ≡ classes_of rows.now) }
     {
-        let mut sums = ClassSums::none();
+        let mut sums = ClassSums {
+            text: Sums::none(),
+            binary: Sums::none(),
+        };
         let mut rest = rows;
         'rows: while let [row, others @ ..] = rest {
             sums = sums.checked_add(ClassSums::of_row(row))?;

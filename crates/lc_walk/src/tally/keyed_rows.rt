@@ -1,7 +1,6 @@
 //! The rows of a tally, found by their keys.
 ghost use Rattle.std.specs.Prelude.{◌≡◌, ◌<◌, [], ◌∷◌, ◌++◌, length, IfOk, IfSome, IsSome, IsOk, IsTrue, OnOk, OnErr};
 ghost use Rattle.std.specs.List.{HoldsAt};
-ghost use Rattle.std.specs.List.Sorted.{IsPermutation, IsSortedByKey};
 ghost use Rattle.std.specs.declared.cmp.Ordering.TheVariants.{Equal};
 ghost use Rattle.lc_walk.specs.Key.{key_cmp};
 ghost use Rattle.lc_walk.specs.Sums.{plus, IsInRange};
@@ -198,16 +197,15 @@ pub(crate) fn add_up(rows: &mut Vec<TallyRow>)
     requires { IsInRange (sums_of_rows rows.old.items) }
     ensures { AddsUp rows.old.items rows.new.items }
 {
-    sort(rows);
+    rows.sort_unstable_by(|a, b| a.compare(&b.key()));
     let absorbed = |row: &mut TallyRow, last: &mut TallyRow| -> bool
         ensures { IsAbsorbed row.entry.now last.entry.now result row.exit.now last.exit.now }
-    { last.absorb_row(row) };
+    {
+        let same = row.compare(&last.key()).is_eq();
+        if same {
+            last.absorb(row.sums());
+        }
+        same
+    };
     rows.dedup_by(absorbed);
-}
-
-fn sort(rows: &mut Vec<TallyRow>)
-    ensures same { IsPermutation rows.old.items rows.new.items }
-    ensures order { IsSortedByKey (λ (r : TallyRowModel). r.key) key_cmp rows.new.items }
-{
-    rows.sort_unstable_by(|a, b| a.compare(&b.key()));
 }

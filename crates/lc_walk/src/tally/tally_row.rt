@@ -5,7 +5,6 @@ ghost use Rattle.std.specs.Ordering.{nat_cmp};
 ghost use Rattle.std.specs.Cmp.Lexicographic.{slice_cmp};
 ghost use Rattle.lc_walk.specs.Key.{key_cmp};
 ghost use Rattle.lc_walk.specs.Sums.{plus, IsInRange};
-ghost use Rattle.lc_walk.specs.TallyRows.{IsAbsorbed};
 
 use crate::tally::key::{KeyRef, eol_rank, text_rank};
 use crate::tally::sums::Sums;
@@ -51,7 +50,7 @@ impl TallyRow {
         ensures { IfOk result (λ r. r ≡ record { key = key.now; sums = sums }) }
     {
         Ok(TallyRow {
-            ext: copy_extension(alloc, key.extension)?,
+            ext: key.extension.map(|bytes| bytes.to_vec(alloc)).transpose()?,
             text: key.text,
             eol: key.eol,
             files: sums.files,
@@ -78,7 +77,7 @@ impl TallyRow {
         ensures { result ≡ self.now.key }
     {
         KeyRef {
-            extension: lent_extension(&self.ext),
+            extension: self.ext.as_deref(),
             text: self.text,
             eol: self.eol,
         }
@@ -111,44 +110,10 @@ impl TallyRow {
         self.blank = self.blank.saturating_add(more.blank);
         self.bytes = self.bytes.saturating_add(more.bytes);
     }
-
-    /// Adds the sums of another row if that row has the same key. Returns whether it has.
-    pub(crate) fn absorb_row(&mut self, row: &TallyRow) -> bool
-        ensures { IsAbsorbed row.now self.old result row.now self.new }
-    {
-        let same = row.compare(&self.key()).is_eq();
-        if same {
-            self.absorb(row.sums());
-        }
-        same
-    }
-}
-
-fn lent_extension(own: &Option<Vec<u8>>) -> Option<&[u8]>
-    ensures { option_map (λ s. s.now) result ≡ option_map (λ v. v.items) own.now }
-{
-    match own {
-        Some(bytes) => Some(bytes.as_slice()),
-        None => None,
-    }
-}
-
-fn copy_extension(alloc: Global, lent: Option<&[u8]>) -> Result<Option<Vec<u8>>, AllocError>
-    ensures { IfOk result (λ r. option_map (λ v. v.items) r ≡ option_map (λ s. s.now) lent.entry) }
-{
-    match lent {
-        Some(bytes) => Ok(Some(bytes.to_vec(alloc)?)),
-        None => Ok(None),
-    }
 }
 
 fn compare_extensions(own: &Option<Vec<u8>>, lent: Option<&[u8]>) -> Ordering
     ensures { result ≡ option_cmp (slice_cmp nat_cmp) (option_map (λ v. v.items) own.now) (option_map (λ s. s.now) lent.entry) }
 {
-    match (own, lent) {
-        (None, None) => Ordering::Equal,
-        (None, Some(_)) => Ordering::Less,
-        (Some(_), None) => Ordering::Greater,
-        (Some(own), Some(lent)) => own.as_slice().cmp(&lent),
-    }
+    own.as_deref().cmp(&lent)
 }

@@ -1,5 +1,5 @@
 //! Adding the counted files of a directory to a tally.
-ghost use Rattle.std.specs.Prelude.{◌∷◌, [], map};
+ghost use Rattle.std.specs.Prelude.{map};
 ghost use Rattle.lc_walk.specs.Serving.{AddsFiles};
 ghost use Rattle.lc_walk.specs.FoundReports.{tallied};
 
@@ -7,22 +7,15 @@ use crate::tally::{MAX_FILES, Tally, extension};
 use lc_level::FileLine;
 use std::alloc::AllocError;
 
-/// Adds a file to the tally.
-fn add_file(tally: &mut Tally, file: &FileLine) -> Result<(), AllocError>
-    ensures { AddsFiles (tallied file.now ∷ []) tally.old tally.new result }
-{
-    if tally.totals().files >= MAX_FILES {
-        return Err(AllocError);
-    }
-    tally.add(extension(&file.path), file.text(), file.count)
-}
-
 /// Adds files to the tally. After an error, the tally may lack some of the files.
 pub(crate) fn add_files(tally: &mut Tally, files: &[FileLine]) -> Result<(), AllocError>
     ensures { AddsFiles (map tallied files.now) tally.old tally.new result }
 {
     for file in files {
-        add_file(tally, file)?;
+        if tally.totals().files >= MAX_FILES {
+            return Err(AllocError);
+        }
+        tally.add(extension(&file.path), file.text(), file.count)?;
     }
     Ok(())
 }

@@ -38,8 +38,7 @@ impl<B: Shared<Job, Row>, T: Tree, W: Threads + Wait + Sync> Worker<'_, '_, B, T
             .give(self.rt, pass, Row::Broken(BrokenRow { job, cause }));
         match cause {
             BrokenCause::Memory => Err(AllocError),
-            BrokenCause::TooManyDirs => Ok(()),
-            BrokenCause::TooDeep => Ok(()),
+            BrokenCause::TooManyDirs | BrokenCause::TooDeep => Ok(()),
         }
     }
 
