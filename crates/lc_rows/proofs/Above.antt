@@ -1,9 +1,10 @@
 -- Rows that are added to the directories right above theirs, level by level.
-use Rattle.std.proofs.Common.{◌≡◌, ℕ, ◌+◌, ◌-◌, ◌<◌, ◌≤◌, min, suc, zero, Bool, true, false, ◌||◌, List, [], ◌∷◌, ◌++◌, map, length}
-use Rattle.std.proofs.Common.{nat_le, Option, Some, None, option_map, refl, sym, ◌∙◌, ap, ap₂, subst, arith, append_assoc}
+use Rattle.std.proofs.lemmas.Grind.{common_steps, flat_map-append}
 use Rattle.std.proofs.lemmas.List.{Elements.filter-append, append-nil, Folds.list_any-append, FromFn.map-range_with_len_more}
 use Rattle.std.proofs.lemmas.List.Sums.{sum_by-append, sum_by-cons}
-use Rattle.std.proofs.lemmas.{Bool.Decides.nat_tests, Grind.flat_map-append}
+use Rattle.std.proofs.{lemmas.Bool.Decides.nat_tests, Common.{◌≡◌, ℕ, ◌+◌, ◌-◌, ◌<◌, ◌≤◌, min, suc, zero, Bool, true, false, ◌||◌, List}}
+use Rattle.std.proofs.Common.{[], ◌∷◌, ◌++◌, map, length, nat_le, Option, Some, None, option_map, refl, sym, ◌∙◌, ap, ap₂, subst, arith}
+use Rattle.std.proofs.Common.{append_assoc}
 use Rattle.std.specs.List.{slice_index_or, Sorted.IsNonDecreasingBy, flat_map, list_any, range_with_len, sum_by}
 use Rattle.lc_walk.specs.{Sums.plus, declared.tally.sums.Sums.Sums}
 use Rattle.lc_walk.proofs.{Filtered.{part, sum_by-filter}, RowSums.same_sums}
@@ -70,11 +71,7 @@ have_both ws xs ys zs a b =
 -- ---- rows
 
 or_moved : (a b c d : Bool) → ((a || (b || false)) || (c || d)) ≡ ((b || c) || (a || d))
-or_moved true true c d = refl
-or_moved true false true d = refl
-or_moved true false false d = refl
-or_moved false true c d = refl
-or_moved false false c d = refl
+or_moved a b c d = grind (arith, common_steps)
 
 module _ (n : ℕ) where
   raised_sum : (g : ShownRowModel → ℕ) (rs : List ShownRowModel) → sum_by g (flat_map (level_parts n) rs)
@@ -141,11 +138,7 @@ module _ (n : ℕ) where
 
   next_below : (left : ℕ) (r : ShownRowModel) (m : ℕ) → m ≡ level_to n (row_key r) → nat_le left m ≡ false
       → AreBelow n (left - 1) (next_at m r)
-  next_below left r zero is low = refl
-  next_below left r (suc j) is low =
-      let deep = level_cut r.directory j in
-      let one : nat_le (left - 1) (level_to n (key_at j (row_key r))) ≡ false = grind (arith, nat_tests) in
-      ap (λ b. b || false) one
+  next_below left r m is low = grind (arith, common_steps, level_cut, nat_tests)
 
   both_none : (a b : Bool) → (a || b) ≡ false → (a ≡ false) × (b ≡ false)
   both_none true b e = absurd (cc)
@@ -234,7 +227,4 @@ module _ (n : ℕ) (rows all raised rest parts others level above : List ShownRo
 
 pub raised_all : (n : ℕ) (rows all raised rest : List ShownRowModel) (left : ℕ) → IsRaised n rows all raised rest left → left ≡ 0
     → HaveSumsOf (flat_map (level_parts n) rows) all
-raised_all n rows all raised rest left was none =
-    let empty : raised ++ rest ≡ [] = none_below n (raised ++ rest) (subst (λ l. AreBelow n l (raised ++ rest)) none was.low) in
-    subst (HaveSumsOf (flat_map (level_parts n) rows)) (append-nil all)
-    (subst (λ l. HaveSumsOf (flat_map (level_parts n) rows) (all ++ flat_map (level_parts n) l)) empty was.same)
+raised_all n rows all raised rest left was none = grind (arith, common_steps, none_below, append-nil)

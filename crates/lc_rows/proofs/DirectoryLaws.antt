@@ -1,33 +1,23 @@
 -- What is true of the rows of directories.
-use Rattle.std.proofs.Common.{◌≡◌, ℕ, Bool, true, false, cond, ◌&&◌, ◌||◌, not, List, [], ◌∷◌, map, length, get_or, suc, refl, sym, ◌∙◌, ap}
+use Rattle.std.proofs.lemmas.{Grind.common_steps, Cmp.tied_itself}
+use Rattle.std.proofs.{lemmas.List.{get_or-map, length-map, Folds.list_any_at, Sorted.sum_by-IsPermutation, Sums.length-filter}, Common.◌≡◌}
+use Rattle.std.proofs.Common.{ℕ, Bool, true, false, cond, ◌&&◌, ◌||◌, not, List, [], ◌∷◌, map, length, get_or, suc, refl, sym, ◌∙◌, ap}
 use Rattle.std.proofs.Common.{arith, subst}
-use Rattle.std.proofs.lemmas.Cmp.{tied_itself}
-use Rattle.std.proofs.lemmas.List.{get_or-map, length-map, Folds.list_any_at, Sorted.sum_by-IsPermutation, Sums.length-filter}
-use Rattle.std.specs.{Bool.MatchBool, List.{AllByRecursion, filter, list_any, sum_by, Sorted.{IsPermutation, IsStrictlySortedBy}}}
-use Rattle.std.specs.Ordering.{is_eq}
+use Rattle.std.specs.{Bool.MatchBool, List.{AllByRecursion, filter, list_any, Sorted.{IsPermutation, IsStrictlySortedBy}}, Ordering.is_eq}
 use Rattle.std.specs.declared.cmp.Ordering.TheVariants.{Less, Equal}
 use Rattle.lc_sheet.specs.{Keys.are_of_files, declared.table_options.Columns.Columns}
 use Rattle.lc_walk.proofs.{Filtered.{part, sum_by-filter}, Keys.equal_if, ReportTotals.sum_by-map, RowSums.same_sums}
-use Rattle.lc_walk.specs.{Sums.one_file, TallyRows.TallyRowModel, declared.tally.sums.Sums.Sums}
+use Rattle.lc_walk.specs.{TallyRows.TallyRowModel, declared.tally.sums.Sums.Sums}
 use Rattle.lc_rows.specs.{Laws.{DirectoriesLaw, OneRowLaw, file_row_key, sums_of_lines}, RowKeys.{RowKey, ShownRowModel, AreInRowOrder}}
-use Rattle.lc_rows.specs.RowKeys.{has_within, row_key, row_key_cmp, rows_within, same_row_key, sums_of_shown}
-use Rattle.lc_rows.specs.ShownRows.{AreAddedUp, AreSummed}
-use Rattle.lc_rows.specs.ShownRows.{part_of_file, parts_in}
+use Rattle.lc_rows.specs.{RowKeys.{has_within, row_key, row_key_cmp, rows_within, same_row_key, sums_of_shown}, ShownRows.AreAddedUp}
+use Rattle.lc_rows.specs.ShownRows.{AreSummed, part_of_file, parts_in}
 use Rattle.lc_rows.proofs.{Folding.{alike_permuted, alike_sums}, RowLaws.moved, SameKeys.row_key_cmp_total}
 use Rattle.lc_level.specs.Level.{FileLineModel}
 
 -- the sums over the parts of a set of keys are those over their files
 file_sums : (by : Columns) (keys : RowKey → Bool) (fs : List FileLineModel)
     → sums_of_shown (rows_within keys (map (part_of_file by by.dir) fs)) ≡ sums_of_lines (filter (λ f. keys (file_row_key by f)) fs)
-file_sums by keys fs =
-    let p : ShownRowModel → Bool = λ r. keys (row_key r) in
-    let q : FileLineModel → Bool = λ f. keys (file_row_key by f) in
-    let one : (v : Sums → ℕ) → sum_by (λ (r : ShownRowModel). v r.sums) (filter p (map (part_of_file by by.dir) fs))
-    ≡ sum_by (λ (f : FileLineModel). v (one_file f.count)) (filter q fs) =
-    λ v. sum_by-filter p (λ (r : ShownRowModel). v r.sums) (map (part_of_file by by.dir) fs)
-    ∙ sum_by-map (part p (λ (r : ShownRowModel). v r.sums)) (part_of_file by by.dir) fs
-    ∙ sym (sum_by-filter q (λ (f : FileLineModel). v (one_file f.count)) fs) in
-    same_sums _ _ (one (λ s. s.files)) (one (λ s. s.lines)) (one (λ s. s.blank)) (one (λ s. s.bytes))
+file_sums by keys fs = grind (arith, common_steps, sum_by-filter, sum_by-map, part, same_sums)
 
 -- rows by directories or attributes are added up from files
 of_files : (by : Columns) (rs : List TallyRowModel) (fs : List FileLineModel) (summed : List ShownRowModel) → are_of_files by ≡ true

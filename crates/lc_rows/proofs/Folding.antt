@@ -1,4 +1,5 @@
 -- Parts in the order of their keys, added to rows one by one.
+use Rattle.std.proofs.lemmas.Grind.{common_steps}
 use Rattle.std.proofs.Common.{◌≡◌, ℕ, ◌+◌, Bool, true, false, cond, ◌||◌, List, [], ◌∷◌, ◌++◌, map, length, get_or, suc, refl, sym, ◌∙◌}
 use Rattle.std.proofs.{Common.{ap, subst, arith, append_assoc}, lemmas.List.{map_push, Folds.list_any-append}}
 use Rattle.std.proofs.lemmas.List.{Sorted.{list_any-IsPermutation, sum_by-IsPermutation}, Sums.{sum_by-append, sum_by-cons}}
@@ -33,10 +34,7 @@ alike_further xs ys zs a b = record {
 
 -- the same rows in another order
 pub alike_permuted : (xs ys : List ShownRowModel) → IsPermutation xs ys → AreAlike xs ys
-alike_permuted xs ys moved = record {
-  sums = λ keys v adds. sum_by-IsPermutation (gives keys v) xs ys moved;
-  present = λ keys. sym (list_any-IsPermutation (λ (r : ShownRowModel). keys (row_key r)) xs ys moved);
-}
+alike_permuted xs ys moved = grind (arith, common_steps, sum_by-IsPermutation, list_any-IsPermutation)
 
 -- the sums over the rows of a set of keys
 pub alike_sums : (xs ys : List ShownRowModel) → AreAlike xs ys → (keys : RowKey → Bool)
@@ -116,11 +114,7 @@ module _ {K : Type 0} {R : K → K → Ordering} (total : IsTotalOrder R) where
 
 -- what is neither less nor the same is greater
 greater : (o p : Ordering) → o ≡ ordering_reverse p → is_lt p ≡ false → is_eq o ≡ false → o ≡ Less
-greater Less p e f g = refl
-greater Equal p e f g = absurd (cc)
-greater Greater Less e f g = absurd (cc)
-greater Greater Equal e f g = absurd (cc)
-greater Greater Greater e f g = e
+greater o p e f g = grind (arith, common_steps)
 
 -- some parts were added to rows, and the rest of the parts is still to be added
 pub record IsFolded (parts rows : List ShownRowModel) (last : ShownRowModel) (rest : List ShownRowModel) : Type 0 where
@@ -179,13 +173,7 @@ folded_more parts rows rest others last part rows_after last_after are added fol
 -- after the last part
 pub folded_all : (parts rows all : List ShownRowModel) (last : ShownRowModel) (rest : List ShownRowModel) → rest ≡ []
     → all ≡ rows ++ last ∷ [] → IsFolded parts rows last rest → AreAddedUp parts all
-folded_all parts rows all last rest none are folded =
-    let alike : AreAlike parts (rows ++ last ∷ []) = subst (λ l. AreAlike parts (rows ++ last ∷ l)) none folded.alike in
-    subst (AreAddedUp parts) (sym are) (record {
-      sums = alike_sums parts (rows ++ last ∷ []) alike;
-      present = alike.present;
-      order = folded.order;
-    })
+folded_all parts rows all last rest none are folded = grind (arith, common_steps, alike_sums)
 
 -- no parts add up to no rows
 pub folded_none : (parts : List ShownRowModel) → length parts ≡ 0 → AreAddedUp parts []

@@ -1,6 +1,7 @@
 -- The parts of a report that meet conditions: their order, and opposite ones.
+use Rattle.std.proofs.lemmas.Grind.{common_steps}
 use Rattle.std.proofs.Common.{◌≡◌, ◌∙◌, ◌+◌, ◌&&◌, ◌||◌, ℕ, Bool, true, false, not, List, [], ◌∷◌, map, filter, refl, sym, ap, ap₂}
-use Rattle.std.proofs.{Common.{if◌then◌else◌, subst, arith}, Math.Path.fun_ext, lemmas.List.length-map}
+use Rattle.std.proofs.{Common.{if◌then◌else◌, arith}, Math.Path.fun_ext, lemmas.List.length-map}
 use Rattle.std.proofs.lemmas.List.{Filters.{length-filter_both, sum_by-filter_both}, Sorted.{length_permutation, list_any-IsPermutation}}
 use Rattle.std.specs.{Bool.MatchBool, List.{list_all, list_any, sum_by, Sorted.IsPermutation}}
 use Rattle.lc_sheet.specs.declared.condition.Comparison.{Comparison, TheVariants.{Less, AtMost, Equal, Unequal, AtLeast, Greater}}
@@ -10,7 +11,7 @@ use Rattle.lc_level.specs.Level.{FileLineModel}
 use Rattle.lc_walk.specs.{ReportTotals.counted_line, Sums.plus, Tally.{CountedFile, IsTally, sums_of_files}, TallyRows.TallyRowModel}
 use Rattle.lc_walk.specs.{TallyRows.sums_of_rows, declared.report.Report.Report}
 use Rattle.lc_walk.proofs.{ReportTotals.sum_by-map, RowSums.same_sums}
-use Rattle.lc_rows.specs.Kept.{AreKeptRows, IsPart, file_meets, holds_all, kept_totals, row_meets, value_of_file, value_of_row}
+use Rattle.lc_rows.specs.Kept.{AreKeptRows, IsPart, file_meets, holds_all, row_meets, value_of_file, value_of_row}
 use Rattle.lc_rows.specs.KeptLaws.{NoConditionLaw, OppositesLaw, OrderLaw, opposite, opposite_of, opposite_test, tested_sums}
 
 pub no_condition_law : NoConditionLaw
@@ -43,24 +44,10 @@ module _ (cs ds : List ConditionModel) (same : IsPermutation cs ds) where
 
   rows_permuted : (r part : Report) → AreKeptRows (needs_files cs) cs r part.files.items part.rows.items
       → AreKeptRows (needs_files ds) ds r part.files.items part.rows.items
-  rows_permuted r part are =
-      subst (λ (b : Bool). AreKeptRows b ds r part.files.items part.rows.items) same_need
-      (subst (λ (p : TallyRowModel → Bool). MatchBool (needs_files cs) (IsTally (map counted_line part.files.items) part.rows.items)
-      (part.rows.items ≡ filter p r.rows.items)) same_rows are)
+  rows_permuted r part are = grind (arith, common_steps, same_need, same_rows)
 
   part_permuted : (r part : Report) → IsPart cs r part → IsPart ds r part
-  part_permuted r part is = record {
-    files = is.files ∙ ap (λ (p : FileLineModel → Bool). filter p r.files.items) same_files;
-    rows = rows_permuted r part is.rows;
-    columns = is.columns;
-    totals = is.totals ∙ ap (λ b. kept_totals b part.files.items part.rows.items) same_need;
-    classes = is.classes;
-    directories = is.directories;
-    entries = is.entries;
-    lists = is.lists;
-    faults = is.faults;
-    skipped = is.skipped;
-  }
+  part_permuted r part is = grind (arith, common_steps, same_files, rows_permuted, same_need)
 
 pub order_law : OrderLaw
 order_law [] [] r part same is = is
@@ -75,12 +62,7 @@ not_not true = refl
 not_not false = refl
 
 opposite_compares : (o : Comparison) (n m : ℕ) → compares (opposite_of o) n m ≡ not (compares o n m)
-opposite_compares Less n m = not_not _
-opposite_compares AtMost n m = refl
-opposite_compares Equal n m = refl
-opposite_compares Unequal n m = not_not _
-opposite_compares AtLeast n m = refl
-opposite_compares Greater n m = not_not _
+opposite_compares o n m = grind (arith, common_steps, not_not)
 
 opposite_meets : (t : TestModel) (v : ValueModel) → meets (opposite_test t) v ≡ not (meets t v)
 opposite_meets (one_of texts) v = refl
@@ -116,11 +98,7 @@ files_add_up c fs =
 
 rows_add_up : (c : ConditionModel) (rs : List TallyRowModel)
     → plus (sums_of_rows (filter (row_meets (c ∷ [])) rs)) (sums_of_rows (filter (row_meets (opposite c ∷ [])) rs)) ≡ sums_of_rows rs
-rows_add_up c rs =
-    let both : (v : TallyRowModel → ℕ) → sum_by v (filter (row_meets (c ∷ [])) rs) + sum_by v (filter (row_meets (opposite c ∷ [])) rs)
-    ≡ sum_by v rs
-    = λ v. sum_by-filter_both (row_meets (c ∷ [])) (row_meets (opposite c ∷ [])) (λ r. opposite_holds c (value_of_row r)) v rs in
-    same_sums _ _ (both (λ r. r.sums.files)) (both (λ r. r.sums.lines)) (both (λ r. r.sums.blank)) (both (λ r. r.sums.bytes))
+rows_add_up c rs = grind (arith, common_steps, sum_by-filter_both, opposite_holds, same_sums)
 
 or_false : (b : Bool) → (b || false) ≡ b
 or_false true = refl
@@ -130,22 +108,11 @@ or_false false = refl
 totals_at : (b : Bool) (cs : List ConditionModel) (r part : Report) → needs_files cs ≡ b → IsPart cs r part
     → part.totals ≡ (if b then sums_of_files (map counted_line (filter (file_meets cs) r.files.items))
     else sums_of_rows (filter (row_meets cs) r.rows.items))
-totals_at true cs r part need is =
-    is.totals ∙ (ap (λ b. kept_totals b part.files.items part.rows.items) need
-    ∙ ap (λ (fs : List FileLineModel). sums_of_files (map counted_line fs)) is.files)
-totals_at false cs r part need is =
-    is.totals ∙ (ap (λ b. kept_totals b part.files.items part.rows.items) need
-    ∙ ap sums_of_rows (subst (λ (b : Bool). MatchBool b (IsTally (map counted_line part.files.items) part.rows.items)
-    (part.rows.items ≡ filter (row_meets cs) r.rows.items)) need is.rows))
+totals_at b cs r part need is = grind (arith, common_steps)
 
 parts_add_up : (b : Bool) (c : ConditionModel) (r x y : Report) → is_on_files c ≡ b → r.totals ≡ tested_sums b r
     → IsPart (c ∷ []) r x → IsPart (opposite c ∷ []) r y → plus x.totals y.totals ≡ r.totals
-parts_add_up true c r x y on has is_x is_y =
-    ap₂ plus (totals_at true (c ∷ []) r x (or_false _ ∙ on) is_x) (totals_at true (opposite c ∷ []) r y (or_false _ ∙ on) is_y)
-    ∙ (files_add_up c r.files.items ∙ sym has)
-parts_add_up false c r x y on has is_x is_y =
-    ap₂ plus (totals_at false (c ∷ []) r x (or_false _ ∙ on) is_x) (totals_at false (opposite c ∷ []) r y (or_false _ ∙ on) is_y)
-    ∙ (rows_add_up c r.rows.items ∙ sym has)
+parts_add_up b c r x y on has is_x is_y = grind (arith, common_steps, totals_at, or_false, files_add_up, rows_add_up)
 
 pub opposites_law : OppositesLaw
 opposites_law c r has x y is_x is_y = parts_add_up (is_on_files c) c r x y refl has is_x is_y

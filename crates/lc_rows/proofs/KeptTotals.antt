@@ -1,6 +1,7 @@
 -- Where the totals of a report add up, those of what meets conditions do.
-use Rattle.std.proofs.Common.{◌≡◌, ◌∙◌, ◌<◌, ℕ, Bool, true, false, ◌&&◌, cond, List, [], ◌∷◌, filter, map, refl, sym, ap, ap₂, subst}
-use Rattle.std.proofs.{Math.Path.fun_ext, lemmas.{Bool.or_parts, List.{Elements.All-filter, Kept.IsStrictlySortedBy-filter}}}
+use Rattle.std.proofs.Common.{arith, ◌≡◌, ◌∙◌, ◌<◌, ℕ, Bool, true, false, ◌&&◌, cond, List, [], ◌∷◌, filter, map, refl, sym, ap, ap₂}
+use Rattle.std.proofs.{Common.subst, lemmas.{Grind.common_steps, Bool.or_parts, List.{Elements.All-filter, Kept.IsStrictlySortedBy-filter}}}
+use Rattle.std.proofs.Math.Path.{fun_ext}
 use Rattle.std.specs.List.Sorted.{IsStrictlySortedBy}
 use Rattle.lc_level.specs.Level.{FileLineModel}
 use Rattle.lc_sheet.specs.Conditions.{ConditionModel, TestModel, compared, is_of_files, is_on_files, meets, needs_files, none_of, one_of}
@@ -8,8 +9,8 @@ use Rattle.lc_sheet.specs.{Values.{ValueModel, blank, path}, declared.column.Col
 use Rattle.lc_walk.proofs.{Classes.both_are_all, Keys.{equal_if, exact_keys}, ReportTotals.{filter-map, tally_sums}}
 use Rattle.lc_walk.specs.{Key.{Key, key_cmp, same_key}, ReportTotals.{TotalsAddUp, counted_line}, Sums.{no_files, plus}, Tally.CountedFile}
 use Rattle.lc_walk.specs.{Tally.{IsTally, files_with, key_of, sums_of_files}, TallyRows.{TallyRowModel, row_with, rows_with, sums_of_rows}}
-use Rattle.lc_walk.specs.{Classes.classes_of, declared.tally.classes.ClassSums.ClassSums}
-use Rattle.lc_walk.specs.declared.{options.ReportLists.ReportLists, report.Report.Report}
+use Rattle.lc_walk.specs.{Classes.classes_of, declared.{tally.classes.ClassSums.ClassSums, options.ReportLists.ReportLists}}
+use Rattle.lc_walk.specs.declared.report.Report.{Report}
 use Rattle.lc_rows.specs.Kept.{AreKeptRows, IsPart, file_meets, holds_all, kept_totals, row_meets, value_of_file, value_of_row}
 use Rattle.lc_rows.specs.KeptLaws.{KeptTotalsLaw}
 use Rattle.lc_sheet.specs.declared.column.Column.TheVariants as column
@@ -74,14 +75,7 @@ path_meets (compared comparison n) p = refl
 
 file_at : (f : FileLineModel) (t : TestModel) (c : Column) → is_of_files c ≡ false
     → meets t (value_of_file f c) ≡ meets t (value_of_row (row_at (key_of (counted_line f))) c)
-file_at f t (column.Number n) e = cc
-file_at f t (column.Key key.Dir) e = refl
-file_at f t (column.Key (key.Attribute place)) e = cc
-file_at f t (column.Key key.Ext) e = refl
-file_at f t (column.Key key.Text) e = refl
-file_at f t (column.Key key.Eol) e = refl
-file_at f t column.Path e = path_meets t f.path
-file_at f t other e = refl
+file_at f t c e = grind (arith, common_steps, path_meets)
 
 row_at_key : (r : TallyRowModel) (t : TestModel) (c : Column) → is_of_files c ≡ false
     → meets t (value_of_row r c) ≡ meets t (value_of_row (row_at r.key) c)

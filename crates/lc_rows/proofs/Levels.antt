@@ -1,7 +1,7 @@
 -- How many directories are above a directory of a tree.
-use Rattle.std.proofs.Common.{◌≡◌, ℕ, ◌+◌, ◌-◌, ◌<◌, ◌≤◌, ◌==◌, min, suc, zero, Bool, true, false, cond, List, [], ◌∷◌, if◌then◌else◌}
-use Rattle.std.proofs.{Common.{◌++◌, nat_le, refl, sym, ◌∙◌, ap, arith}, lemmas.Bool.Decides.nat_tests}
-use Rattle.std.proofs.lemmas.List.Splits.{join_with_byte-slice_split}
+use Rattle.std.proofs.{lemmas.{Grind.common_steps, Bool.Decides.nat_tests, List.Splits.join_with_byte-slice_split}, Common.{◌≡◌, ℕ, ◌+◌}}
+use Rattle.std.proofs.Common.{◌-◌, ◌<◌, ◌≤◌, ◌==◌, min, suc, zero, Bool, true, false, cond, List, [], ◌∷◌, if◌then◌else◌, ◌++◌, nat_le}
+use Rattle.std.proofs.Common.{refl, sym, ◌∙◌, ap, arith}
 use Rattle.std.specs.List.{AllByRecursion, join_with_byte, onto_first}
 use Rattle.lc_glob.proofs.Naming.{segments_apart, some_segment}
 use Rattle.lc_glob.specs.{Bytes.slash, Path.{is_no_name, segments_of}}
@@ -15,10 +15,7 @@ IsWhole s = segments_of s ≡ s ∷ []
 
 whole_cons : (b : ℕ) (t : Bool) → (b == slash) ≡ t → (ps : List (List ℕ)) → AllByRecursion IsWhole ps
     → AllByRecursion IsWhole (cond t ([] ∷ ps) (onto_first b ps))
-whole_cons b true e ps all = (refl, all)
-whole_cons b false e [] all = (ap (λ t. cond t ([] ∷ [] ∷ []) ((b ∷ []) ∷ [])) e, tt)
-whole_cons b false e (x ∷ xs) all =
-    (ap (λ t. cond t ([] ∷ segments_of x) (onto_first b (segments_of x))) e ∙ ap (onto_first b) all.0, all.1)
+whole_cons b t e ps all = grind (arith, common_steps)
 
 pub whole_segments : (bs : List ℕ) → AllByRecursion IsWhole (segments_of bs)
 whole_segments [] = (refl, tt)
@@ -76,11 +73,7 @@ next_first j n k s ss e f rest =
 first_by : (j n : ℕ) (s : List ℕ) (ss : List (List ℕ)) (b : Bool) → is_no_name s ≡ b
     → ((k : ℕ) → to_name k (to_name (k + n) ss) ≡ to_name k ss)
     → to_name (suc j) (s ∷ to_name (suc j + n - names_in s) ss) ≡ to_name (suc j) (s ∷ ss)
-first_by j n s ss true e rest =
-    let none : names_in s ≡ 0 = ap (λ b. if b then 0 else 1) e in
-    next_first j n (suc j) s ss (omega arith) (omega arith) (rest (suc j))
-first_by j n s ss false e rest =
-    let one : names_in s ≡ 1 = ap (λ b. if b then 0 else 1) e in next_first j n j s ss (omega arith) (omega arith) (rest j)
+first_by j n s ss b e rest = grind (arith, common_steps, next_first)
 
 first_of_more : (n : ℕ) (ss : List (List ℕ)) (j : ℕ) → to_name j (to_name (j + n) ss) ≡ to_name j ss
 first_of_more n ss zero = refl
@@ -122,14 +115,7 @@ level_joined ((b ∷ bs) ∷ []) all some = ap levels all.0
 level_joined ((b ∷ bs) ∷ y ∷ ys) all some = ap levels (joined_segments (b ∷ bs) (y ∷ ys) all)
 
 first_not_empty : (n : ℕ) (ss : List (List ℕ)) → (ss ≡ [] ∷ [] → ⊥) → to_name n ss ≡ [] ∷ [] → ⊥
-first_not_empty zero ss some e = absurd (cc)
-first_not_empty (suc n) [] some e = absurd (cc)
-first_not_empty (suc n) ([] ∷ []) some e = some refl
-first_not_empty (suc n) ([] ∷ t ∷ ss) some e =
-    let same : suc n - 0 ≡ suc n = omega arith in
-    let none : [] ∷ t ∷ to_name (suc n - names_in t) ss ≡ [] ∷ [] = sym (ap (λ m. [] ∷ to_name m (t ∷ ss)) same) ∙ e in
-    absurd (cc)
-first_not_empty (suc n) ((b ∷ bs) ∷ ss) some e = absurd (cc)
+first_not_empty n ss some e = grind (arith, common_steps)
 
 not_empty : (b : ℕ) (bs : List ℕ) → segments_of (b ∷ bs) ≡ [] ∷ [] → ⊥
 not_empty b bs e =
@@ -142,11 +128,8 @@ empty_first zero = refl
 empty_first (suc n) = ap (λ l. join_with_byte slash ([] ∷ l)) (first_of_none (suc n - 0))
 
 pub level_of_first : (path : List ℕ) (n : ℕ) → level_of (first_names n path) ≡ min n (level_of path)
-level_of_first [] n = ap level_of (empty_first n) ∙ omega arith
-level_of_first (b ∷ bs) n =
-    level_joined (to_name n (segments_of (b ∷ bs))) (whole_first n (segments_of (b ∷ bs)) (whole_segments (b ∷ bs)))
-    (first_not_empty n (segments_of (b ∷ bs)) (not_empty b bs))
-    ∙ levels_of_first n (segments_of (b ∷ bs))
+level_of_first path n =
+    grind (arith, common_steps, empty_first, level_joined, whole_first, whole_segments, first_not_empty, not_empty, levels_of_first)
 
 -- the directory that holds a file, cut after n names, is n levels below the top, or as many as there are
 pub level_at : (path : List ℕ) (n : ℕ) → level_of (directory_of n path) ≡ min n (level_of (parent_of path))
@@ -193,14 +176,7 @@ whole_path (b ∷ bs) n few =
     ap (join_with_byte slash) (whole_first_names n (segments_of (b ∷ bs)) few) ∙ join_with_byte-slice_split slash (b ∷ bs)
 
 capped_at : (path : List ℕ) (n m : ℕ) → m ≡ level_of path → (b : Bool) → nat_le m n ≡ b → first_names n path ≡ first_names (min n m) path
-capped_at path n m is true e =
-    let few : m ≤ n = grind (arith, nat_tests) in
-    let same : min n m ≡ m = omega arith in
-    whole_path path n (omega arith) ∙ sym (whole_path path m (omega arith)) ∙ ap (λ k. first_names k path) (sym same)
-capped_at path n m is false e =
-    let more : n < m = grind (arith, nat_tests) in
-    let same : min n m ≡ n = omega arith in
-    ap (λ k. first_names k path) (sym same)
+capped_at path n m is b e = grind (arith, common_steps, nat_tests, whole_path)
 
 -- a directory of n names or fewer is not cut
 pub capped : (path : List ℕ) (n : ℕ) → directory_of n path ≡ directory_of (min n (level_of (parent_of path))) path

@@ -1,12 +1,13 @@
 -- Paths cut at their last slash, and after their names.
-use Rattle.std.proofs.Common.{◌≡◌, ℕ, ◌+◌, ◌-◌, ◌<◌, ◌≤◌, Bool, true, false, not, List, [], ◌∷◌, ◌++◌, length, take, drop, get_or, refl}
-use Rattle.std.proofs.Common.{sym, ◌∙◌, ap, arith, subst, append_assoc, length-append, Some, None, if◌then◌else◌, suc, zero}
-use Rattle.std.proofs.{Math.Seq.take-append_seam, lemmas.{Bool.false_from_ne_true, Grind.flat_map-append}}
+use Rattle.std.proofs.lemmas.{Grind.{common_steps, flat_map-append}, Bool.false_from_ne_true}
 use Rattle.std.proofs.lemmas.List.{append-nil, take_rest, Folds.{list_any_at, list_any_none}, Splits.join_with_byte-slice_split}
 use Rattle.std.proofs.lemmas.List.Sums.{suffix_len_is}
-use Rattle.std.specs.List.{before_last, flat_map, join_with_byte, list_any, suffix_len}
+use Rattle.std.proofs.Common.{◌≡◌, ℕ, ◌+◌, ◌-◌, ◌<◌, ◌≤◌, Bool, true, false, not, List, [], ◌∷◌, ◌++◌, length, take, drop, get_or, refl}
+use Rattle.std.proofs.Common.{sym, ◌∙◌, ap, arith, subst, append_assoc, length-append, Some, None, if◌then◌else◌, suc, zero}
+use Rattle.std.proofs.Math.Seq.{take-append_seam}
+use Rattle.std.specs.List.{before_last, flat_map, join_with_byte, suffix_len}
 use Rattle.lc_glob.proofs.{FirstByte.same_read, Naming.some_segment}
-use Rattle.lc_glob.specs.{Bytes.slash, Path.{is_no_name, segments_of}, Pieces.is_byte}
+use Rattle.lc_glob.specs.{Bytes.slash, Path.segments_of, Pieces.is_byte}
 use Rattle.memchr.specs.Find.{IsLastByte, is_byte as found}
 use Rattle.lc_rows.specs.Directories.{after_name, directory_before, first_names, levels, name_of, names_in, parent_of, to_name}
 
@@ -34,31 +35,17 @@ front_at path i h =
     ap (λ n. take n path) same
 
 pub parent_at : (path : List ℕ) (i : ℕ) → IsLastByte (found slash) path (Some i) → directory_before (take i path) ≡ parent_of path
-parent_at path i h =
-    let some : list_any (is_byte slash) path ≡ true = list_any_at (is_byte slash) path i 0 h.0.high h.1 in
-    ap directory_before (front_at path i h)
-    ∙ ap (λ b. if b then directory_before (before_last (is_byte slash) path) else []) (sym some)
+parent_at path i h = grind (arith, common_steps, list_any_at, front_at)
 
 pub name_at : (path : List ℕ) (i : ℕ) → IsLastByte (found slash) path (Some i)
     → take (length path - (i + 1)) (drop (i + 1) path) ≡ name_of path
-name_at path i h =
-    let below : i < length path = h.0.high in
-    let long = name_length path i h in
-    let same : i + 1 ≡ length path - suffix_len (λ b. not (is_byte slash b)) path = omega arith in
-    take_rest path (i + 1) ∙ ap (λ n. drop n path) same
+name_at path i h = grind (arith, common_steps, name_length, take_rest)
 
 pub no_parent : (path : List ℕ) → IsLastByte (found slash) path None → [] ≡ parent_of path
-no_parent path none =
-    let no_slash : list_any (is_byte slash) path ≡ false = list_any_none (is_byte slash) path
-    (λ k d within. false_from_ne_true _ (λ is. none k (omega arith) within
-    (subst (λ b. found slash b ≡ true) (same_read path k d within) is))) in
-    ap (λ b. if b then directory_before (before_last (is_byte slash) path) else []) (sym no_slash)
+no_parent path none = grind (arith, common_steps, list_any_none, false_from_ne_true, same_read)
 
 pub whole_name : (path : List ℕ) → IsLastByte (found slash) path None → path ≡ name_of path
-whole_name path none =
-    let long = whole_length path none in
-    let same : 0 ≡ length path - suffix_len (λ b. not (is_byte slash b)) path = omega arith in
-    ap (λ n. drop n path) same
+whole_name path none = grind (arith, common_steps, whole_length)
 
 -- names, each with a slash behind it
 abbrev ended : List (List ℕ) → List ℕ
@@ -124,10 +111,7 @@ joined_at (x ∷ xs) rest =
 -- after the nth name: what is cut off is the path up to it
 pub cut_path : (path rest : List ℕ) (n left : ℕ) → IsCut path rest n left → left ≡ 0
     → first_names n path ≡ take (length path - length rest - 1) path
-cut_path path rest n left cut none =
-    let first : to_name n (segments_of path) ≡ cut.names =
-    cut.first ∙ ap (λ k. cut.names ++ to_name k (segments_of rest)) none ∙ append-nil cut.names in
-    ap (join_with_byte slash) first ∙ sym (joined_at cut.names rest) ∙ ap (λ l. take (length l - length rest - 1) l) (sym cut.bytes)
+cut_path path rest n left cut none = grind (arith, common_steps, append-nil, joined_at)
 
 pub cut_rest : (path rest : List ℕ) (n left : ℕ) → IsCut path rest n left → left ≡ 0
     → join_with_byte slash (after_name n (segments_of path)) ≡ rest
@@ -135,11 +119,7 @@ cut_rest path rest n left cut none =
     ap (join_with_byte slash) (cut.after ∙ ap (λ k. after_name k (segments_of rest)) none) ∙ join_with_byte-slice_split slash rest
 
 one_left : (left : ℕ) (name : List ℕ) → 0 < left → to_name left (name ∷ []) ≡ name ∷ []
-one_left left name some = to_more left name [] some ∙ ap (λ l. name ∷ l) (of_none (left - names_in name))
-  where
-    of_none : (n : ℕ) → to_name n [] ≡ []
-    of_none zero = refl
-    of_none (suc n) = refl
+one_left left name some = grind (arith, common_steps, to_more)
 
 -- a path that ends before the nth name, or with it, is whole
 pub cut_whole : (path rest name : List ℕ) (n left : ℕ) → IsCut path rest n left → 0 < left → segments_of rest ≡ name ∷ []
@@ -152,12 +132,7 @@ cut_whole path rest name n left cut some last =
 
 pub cut_empty : (path rest name : List ℕ) (n left : ℕ) → IsCut path rest n left → 0 < left → segments_of rest ≡ name ∷ []
     → after_name n (segments_of path) ≡ []
-cut_empty path rest name n left cut some last =
-    cut.after ∙ ap (after_name left) last ∙ after_more left name [] some ∙ of_none (left - names_in name)
-  where
-    of_none : (k : ℕ) → after_name k [] ≡ []
-    of_none zero = refl
-    of_none (suc k) = refl
+cut_empty path rest name n left cut some last = grind (arith, common_steps, after_more)
 
 -- ---- levels
 
@@ -177,10 +152,4 @@ one_name false = omega arith
 pub passed_more : (path rest name below : List ℕ) (level next : ℕ) → IsPassed path rest level
     → segments_of rest ≡ name ∷ segments_of below → rest ≡ name ++ slash ∷ below → next ≡ level + names_in name → IsPassed path below next
 passed_more path rest name below level next passed first whole more =
-    let deep : levels (segments_of rest) ≡ names_in name + levels (segments_of below) =
-    ap levels first ∙ level_more name (segments_of below) (some_segment below) in
-    let long : length rest ≡ length name + length (slash ∷ below) = ap length whole ∙ length-append name (slash ∷ below) in
-    let one : names_in name ≤ 1 = one_name (is_no_name name) in
-    let names = passed.names in
-    let room = passed.room in
-    record { names = omega arith; room = omega arith }
+    grind (arith, common_steps, level_more, some_segment, length-append, one_name)

@@ -1,17 +1,15 @@
 -- What is true of the rows that a table shows.
-use Rattle.std.proofs.Common.{◌≡◌, ℕ, Bool, true, false, List, [], ◌∷◌, map, Option, Some, None, refl, sym, ◌∙◌, ap, subst}
-use Rattle.std.proofs.lemmas.List.Sorted.{IsPermutation-refl, sum_by-IsPermutation}
-use Rattle.std.specs.{Bool.MatchBool, List.{AllByRecursion, sum_by, Sorted.{IsPermutation, IsStrictlySortedBy}}}
+use Rattle.std.proofs.Common.{arith, ◌≡◌, ℕ, Bool, true, false, List, [], ◌∷◌, map, Option, Some, None, refl, sym, ◌∙◌, ap, subst}
+use Rattle.std.proofs.lemmas.{Grind.common_steps, List.Sorted.{IsPermutation-refl, sum_by-IsPermutation}}
+use Rattle.std.specs.{Bool.MatchBool, List.{AllByRecursion, Sorted.{IsPermutation, IsStrictlySortedBy}}}
 use Rattle.std.specs.declared.cmp.Ordering.TheVariants.{Less}
-use Rattle.lc_sheet.specs.declared.{table_options.Columns.Columns, column.Number.Number}
+use Rattle.lc_sheet.specs.{declared.{table_options.Columns.Columns, column.Number.Number}, Keys.{are_all, are_of_files}}
 use Rattle.lc_walk.proofs.{ReportTotals.sum_by-map, RowSums.same_sums}
-use Rattle.lc_walk.specs.{Key.{Key, key_cmp}, Sums.one_file, TallyRows.{TallyRowModel, IsInOrder}, declared.tally.sums.Sums.Sums}
-use Rattle.lc_rows.specs.{Laws.{PermutationLaw, TotalsLaw, WholeLaw, totals_of}, RowKeys.{RowKey, ShownRowModel, row_key}}
-use Rattle.lc_sheet.specs.Keys.{are_all, are_of_files}
-use Rattle.lc_rows.specs.{RowKeys.{file_key_cmp, row_key_cmp, rows_within, sums_of_shown}, ShownRows.{AreAddedUp, AreSorted, part_of_file}}
-use Rattle.lc_rows.specs.ShownRows.{part_of_row, parts_in, parts_of}
+use Rattle.lc_walk.specs.{Key.{Key, key_cmp}, TallyRows.{TallyRowModel, IsInOrder}, declared.tally.sums.Sums.Sums, AllColumns.all_columns}
+use Rattle.lc_rows.specs.{Laws.{PermutationLaw, TotalsLaw, WholeLaw, totals_of}, RowKeys.{RowKey, ShownRowModel, row_key, file_key_cmp}}
+use Rattle.lc_rows.specs.{RowKeys.{row_key_cmp, rows_within, sums_of_shown}, ShownRows.{AreAddedUp, AreSorted, part_of_row, parts_in}}
+use Rattle.lc_rows.specs.ShownRows.{parts_of}
 use Rattle.lc_level.specs.Level.{FileLineModel}
-use Rattle.lc_walk.specs.AllColumns.{all_columns}
 
 -- sorted or not, the rows are the same
 pub moved : (sort : Option Number) (rs sorted : List ShownRowModel) → AreSorted sort rs sorted → IsPermutation rs sorted
@@ -25,15 +23,7 @@ permutation_law by sort rs fs shown h = (h.0, h.1, moved sort h.0 shown h.2)
 -- what the parts add up to in all
 parts_totals : (of_files : Bool) (by : Columns) (rs : List TallyRowModel) (fs : List FileLineModel)
     → sums_of_shown (parts_in of_files by rs fs) ≡ totals_of of_files rs fs
-parts_totals false by rs fs =
-    let one : (v : Sums → ℕ) → sum_by (λ (r : ShownRowModel). v r.sums) (map (part_of_row by) rs)
-    ≡ sum_by (λ (r : TallyRowModel). v r.sums) rs = λ v. sum_by-map (λ (r : ShownRowModel). v r.sums) (part_of_row by) rs in
-    same_sums _ _ (one (λ s. s.files)) (one (λ s. s.lines)) (one (λ s. s.blank)) (one (λ s. s.bytes))
-parts_totals true by rs fs =
-    let one : (v : Sums → ℕ) → sum_by (λ (r : ShownRowModel). v r.sums) (map (part_of_file by by.dir) fs)
-    ≡ sum_by (λ (f : FileLineModel). v (one_file f.count)) fs =
-    λ v. sum_by-map (λ (r : ShownRowModel). v r.sums) (part_of_file by by.dir) fs in
-    same_sums _ _ (one (λ s. s.files)) (one (λ s. s.lines)) (one (λ s. s.blank)) (one (λ s. s.bytes))
+parts_totals of_files by rs fs = grind (arith, common_steps, sum_by-map, same_sums)
 
 -- all rows are within all keys
 all_within : (rs : List ShownRowModel) → rows_within (λ _. true) rs ≡ rs
@@ -50,11 +40,7 @@ summed_totals true parts summed same = ap sums_of_shown same
 summed_totals false parts summed added = added_totals parts summed added
 
 moved_totals : (xs ys : List ShownRowModel) → IsPermutation xs ys → sums_of_shown ys ≡ sums_of_shown xs
-moved_totals xs ys h =
-    same_sums _ _ (sum_by-IsPermutation (λ (r : ShownRowModel). r.sums.files) xs ys h)
-    (sum_by-IsPermutation (λ (r : ShownRowModel). r.sums.lines) xs ys h)
-    (sum_by-IsPermutation (λ (r : ShownRowModel). r.sums.blank) xs ys h)
-    (sum_by-IsPermutation (λ (r : ShownRowModel). r.sums.bytes) xs ys h)
+moved_totals xs ys h = grind (arith, common_steps, same_sums, sum_by-IsPermutation)
 
 -- sums over fewer columns add up to the same totals
 pub totals_law : TotalsLaw

@@ -1,6 +1,6 @@
 -- Keys that tie are the same.
-use Rattle.std.proofs.{Common.{◌≡◌, ℕ, List, [], ◌∷◌, ◌==◌, cond, refl, sym, ◌∙◌, ap₂}}
-use Rattle.std.proofs.lemmas.{Cmp.{lists_total, nat_cmp_total, nat_list_cmp_total, on_total, then_total}}
+use Rattle.std.proofs.{Common.{arith, ◌≡◌, ℕ, List, [], ◌∷◌, ◌==◌, cond, refl, sym, ◌∙◌, ap₂}, lemmas.Grind.common_steps}
+use Rattle.std.proofs.lemmas.Cmp.{lists_total, nat_cmp_total, nat_list_cmp_total, on_total, then_total}
 use Rattle.std.proofs.lemmas.Map.Lookups.{CmpEqualImpliesEq, exact_bytes, exact_unsigned}
 use Rattle.std.specs.{Cmp.{IsTotalOrder, Lexicographic.{options_total, slice_cmp}}, declared.cmp.Ordering.Ordering}
 use Rattle.lc_rules.specs.Attributes.{StateModel, set, unset, value, unspecified}
@@ -13,10 +13,7 @@ state_of n bytes = cond (n == 0) unspecified (cond (n == 1) set (cond (n == 2) u
 
 state_back : (s : StateModel) → state_of (state_place s) (state_bytes s) ≡ s
 unfolding state_of
-state_back set = refl
-state_back unset = refl
-state_back (value bytes) = refl
-state_back unspecified = refl
+state_back s = grind (arith, common_steps, state_of)
 
 exact_states : CmpEqualImpliesEq state_cmp
 exact_states a b e =

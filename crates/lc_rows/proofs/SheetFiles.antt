@@ -1,7 +1,6 @@
 -- The files in the sheet of a report.
-use Rattle.std.proofs.Common.{◌≡◌, ℕ, Bool, true, false, if◌then◌else◌, List, [], ◌∷◌, map, Option, Some, None, refl, sym, ap, ap₂, ◌∙◌}
-use Rattle.std.proofs.Common.{codes, subst}
-use Rattle.std.specs.Prelude.{unwrap_or}
+use Rattle.std.proofs.Common.{arith, ◌≡◌, ℕ, Bool, if◌then◌else◌, List, [], ◌∷◌, map, Option, Some, None, refl, sym, ap, ap₂, ◌∙◌, codes}
+use Rattle.std.proofs.lemmas.Grind.{common_steps}
 use Rattle.lc_sheet.specs.{Sheets.{SectionModel, SheetModel, line_of, lines_of, sheet_format}, declared.form.Form.Form}
 use Rattle.lc_sheet.specs.declared.table_options.Format.{Format, TheVariants.{Tsv, Table, Json, Csv, Markdown}}
 use Rattle.lc_rows.specs.{Kinds.file_value, SheetColumns.file_columns, SheetLaws.{SheetFilesLaw, path_at}, Sheets.{form_of, list_of}}
@@ -11,11 +10,7 @@ use Rattle.lc_level.specs.Level.{FileLineModel}
 -- the path of a file's line, in each format
 path_of_line : (format : Format) (form : Form) (f : FileLineModel)
     → path_at (file_columns format form.by) (line_of (file_value form) (file_columns format form.by) f) ≡ f.path
-path_of_line Tsv form f = refl
-path_of_line Table form f = refl
-path_of_line Json form f = refl
-path_of_line Csv form f = refl
-path_of_line Markdown form f = refl
+path_of_line format form f = grind (arith, common_steps)
 
 paths_of_lines : (format : Format) (form : Form) (fs : List FileLineModel)
     → map (path_at (file_columns format form.by)) (lines_of (file_value form) (file_columns format form.by) fs)
@@ -30,10 +25,7 @@ paths_listed : (attributes : List (List ℕ)) (listed : Bool) (format : Format) 
     (first_of top (listed_files listed fs))))) else None)
     ≡ Some section
     → map (path_at section.columns) section.lines ≡ map (λ (f : FileLineModel). f.path) (first_of top fs)
-paths_listed attributes true format form top fs section is =
-    subst (λ (s : SectionModel). map (path_at s.columns) s.lines ≡ map (λ (f : FileLineModel). f.path) (first_of top fs))
-    (ap (λ (o : Option SectionModel). unwrap_or o section) is) (paths_of_lines format form (first_of top fs))
-paths_listed attributes false format form top fs section is = absurd (cc is)
+paths_listed attributes listed format form top fs section is = grind (arith, common_steps, paths_of_lines)
 
 pub sheet_files_law : SheetFilesLaw
 sheet_files_law options attributes r s section sheet there =

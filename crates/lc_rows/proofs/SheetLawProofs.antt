@@ -1,22 +1,21 @@
 -- What is true of the sheet of a report.
-use Rattle.std.proofs.Common.{◌≡◌, ℕ, ◌+◌, Bool, true, false, List, [], ◌∷◌, ◌++◌, map, Option, Some, None, refl, sym, ap, ap₂, ◌∙◌}
-use Rattle.std.proofs.{Common.{subst, arith, codes, if◌then◌else◌}, lemmas.List.{Sums.sum_by-cons, Sorted.sum_by-IsPermutation}}
+use Rattle.std.proofs.{lemmas.{Grind.common_steps, List.{Sums.sum_by-cons, Sorted.sum_by-IsPermutation}}, Common.{◌≡◌, ℕ, ◌+◌, Bool, true}}
+use Rattle.std.proofs.Common.{false, List, [], ◌∷◌, ◌++◌, map, Option, Some, None, refl, sym, ap, ap₂, ◌∙◌, subst, arith, codes}
+use Rattle.std.proofs.Common.{if◌then◌else◌}
 use Rattle.std.specs.Prelude.{unwrap_or}
 use Rattle.lc_sheet.specs.{Keys.are_of_files, Sheets.{SheetModel, line_of, lines_of, sheet_format}, Values.ValueModel}
 use Rattle.lc_sheet.specs.declared.{column.{Column.Column, Number.{Number, TheVariants.{Files, Lines, Blank, Bytes}}}, form.Form.Form}
-use Rattle.lc_sheet.specs.declared.table_options.Format.{Format, TheVariants.{Tsv, Table, Json, Csv, Markdown}}
-use Rattle.lc_sheet.specs.declared.table_options.TableOptions.{TableOptions}
+use Rattle.lc_sheet.specs.declared.table_options.{Format.{Format, TheVariants.{Tsv, Table, Json, Csv, Markdown}}, TableOptions.TableOptions}
 use Rattle.lc_walk.proofs.RowSums.{same_sums}
-use Rattle.lc_walk.specs.{Sums.{no_files, one_file, plus}, TallyRows.TallyRowModel, declared.tally.sums.Sums.Sums}
+use Rattle.lc_walk.specs.{Sums.{no_files, plus}, TallyRows.TallyRowModel, declared.tally.{sums.Sums.Sums, classes.ClassSums.ClassSums}}
 use Rattle.lc_rows.specs.{Kinds.{NamedSumsModel, row_value, sums_value}, Laws.totals_of, RowKeys.{ShownRowModel, sums_of_shown}}
-use Rattle.lc_rows.specs.SheetColumns.{key_columns, keeps_columns, number_columns, row_columns, share_columns, sums_columns}
-use Rattle.lc_rows.specs.SheetLaws.{SheetClassesLaw, SheetTotalsLaw, column_sum, first_number, is_number, number_at, number_of}
-use Rattle.lc_rows.specs.{SheetLaws.{numbers_in, same_number}, Sheets.{form_of, listed_files, others_lines, section_of, sheet_of}}
-use Rattle.lc_rows.specs.{ShownRows.number_in, ShownFiles.AreFilesSorted, Views.view_of}
+use Rattle.lc_rows.specs.{SheetColumns.{number_columns, row_columns, sums_columns}, SheetLaws.{SheetClassesLaw, SheetTotalsLaw, column_sum}}
+use Rattle.lc_rows.specs.{SheetLaws.{first_number, is_number, number_at, number_of, numbers_in, same_number}, Sheets.form_of}
+use Rattle.lc_rows.specs.{Sheets.{listed_files, others_lines, section_of, sheet_of}, ShownRows.number_in, ShownFiles.AreFilesSorted}
+use Rattle.lc_rows.specs.Views.{view_of}
 use Rattle.lc_rows.proofs.ViewLaws.{cut_totals_law, sorted_files_law}
 use Rattle.lc_level.specs.Level.{FileLineModel}
 use Rattle.lc_sheet.specs.declared.column.Column.TheVariants as column
-use Rattle.lc_walk.specs.declared.tally.classes.ClassSums.{ClassSums}
 
 -- ---- the column of a number
 
@@ -86,10 +85,7 @@ has_behind n [] cs has = has
 has_behind n (c ∷ front) cs has = true_or (is_number n c) (has_number n (front ++ cs)) (has_behind n front cs has)
 
 has_numbers : (n : Number) (cs : List Column) → has_number n (number_columns ++ cs) ≡ true
-has_numbers Files cs = refl
-has_numbers Lines cs = refl
-has_numbers Blank cs = refl
-has_numbers Bytes cs = refl
+has_numbers n cs = grind (arith, common_steps)
 
 either : (b c d : Bool) → (c ≡ true → d ≡ true) → (if b then true else c) ≡ true → (if b then true else d) ≡ true
 either true c d f e = refl
@@ -101,38 +97,22 @@ has_before n (c ∷ front) cs has =
     either (is_number n c) (has_number n front) (has_number n (front ++ cs)) (λ h. has_before n front cs h) has
 
 rows_have : (n : Number) (options : TableOptions) → has_number n (row_columns options) ≡ true
-rows_have n options =
-    let keys = key_columns (keeps_columns (sheet_format options.output)) options.by in
-    has_before n (keys ++ number_columns) (if options.share then share_columns (sheet_format options.output) else [])
-    (has_behind n keys number_columns (has_numbers n []))
+rows_have n options = grind (arith, common_steps, has_before, has_behind, has_numbers)
 
 sums_have : (n : Number) (format : Format) (rows : List Column) → has_number n rows ≡ true → has_number n (sums_columns format rows) ≡ true
-sums_have n Tsv rows has = has
-sums_have n Table rows has = has
-sums_have n Json rows has = has_numbers n []
-sums_have n Csv rows has = has_numbers n []
-sums_have n Markdown rows has = has
+sums_have n format rows has = grind (arith, common_steps, has_numbers)
 
 -- ---- sums
 
 pub number_plus : (n : Number) (a b : Sums) → number_in n (plus a b) ≡ number_in n a + number_in n b
-number_plus Files a b = refl
-number_plus Lines a b = refl
-number_plus Blank a b = refl
-number_plus Bytes a b = refl
+number_plus n a b = grind (arith, common_steps)
 
 no_number : (n : Number) → 0 ≡ number_in n (sums_of_shown [])
-no_number Files = refl
-no_number Lines = refl
-no_number Blank = refl
-no_number Bytes = refl
+no_number n = grind (arith, common_steps)
 
 one_more : (n : Number) (r : ShownRowModel) (rs : List ShownRowModel)
     → number_in n r.sums + number_in n (sums_of_shown rs) ≡ number_in n (sums_of_shown (r ∷ rs))
-one_more Files r rs = sym (sum_by-cons (λ (q : ShownRowModel). q.sums.files) r rs)
-one_more Lines r rs = sym (sum_by-cons (λ (q : ShownRowModel). q.sums.lines) r rs)
-one_more Blank r rs = sym (sum_by-cons (λ (q : ShownRowModel). q.sums.blank) r rs)
-one_more Bytes r rs = sym (sum_by-cons (λ (q : ShownRowModel). q.sums.bytes) r rs)
+one_more n r rs = grind (arith, common_steps, sum_by-cons)
 
 -- the rows of a section have the sums of the rows
 rows_sum : (n : Number) (form : Form) (cs : List Column) → has_number n cs ≡ true → (rs : List ShownRowModel)
@@ -151,10 +131,7 @@ plus_none : (n : ℕ) → n + 0 ≡ n
 plus_none n = omega arith
 
 no_sums : (n : Number) → 0 ≡ number_in n no_files
-no_sums Files = refl
-no_sums Lines = refl
-no_sums Blank = refl
-no_sums Bytes = refl
+no_sums n = grind (arith, common_steps)
 
 others_sum : (n : Number) (form : Form) (cs : List Column) → has_number n cs ≡ true → (others : Option Sums)
     → column_sum n (section_of (sums_value form) cs (others_lines others)) ≡ number_in n (unwrap_or others no_files)
@@ -176,13 +153,7 @@ binary_line classes = record { name = codes "binary"; sums = classes.binary }
 -- sorted files have the same totals
 pub sorted_totals : (of_files : Bool) (sort : Option Number) (rs : List TallyRowModel) (fs sorted : List FileLineModel)
     → AreFilesSorted sort fs sorted → totals_of of_files rs sorted ≡ totals_of of_files rs fs
-sorted_totals false sort rs fs sorted are = refl
-sorted_totals true sort rs fs sorted are =
-    let h = sorted_files_law sort fs sorted are in
-    same_sums _ _ (sum_by-IsPermutation (λ (f : FileLineModel). (one_file f.count).files) fs sorted h)
-    (sum_by-IsPermutation (λ (f : FileLineModel). (one_file f.count).lines) fs sorted h)
-    (sum_by-IsPermutation (λ (f : FileLineModel). (one_file f.count).blank) fs sorted h)
-    (sum_by-IsPermutation (λ (f : FileLineModel). (one_file f.count).bytes) fs sorted h)
+sorted_totals of_files sort rs fs sorted are = grind (arith, common_steps, sorted_files_law, same_sums, sum_by-IsPermutation)
 
 -- ---- the laws
 

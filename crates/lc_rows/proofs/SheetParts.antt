@@ -1,26 +1,22 @@
 -- No row of a sheet has a share over the total or a bar over the longest.
-use Rattle.std.proofs.Common.{◌≡◌, ◌≤◌, ℕ, Bool, true, false, List, [], ◌∷◌, get_or, Option, Some, None, sym, ap, subst, ◌∙◌, arith}
-use Rattle.std.proofs.{Common.{codes, if◌then◌else◌}, lemmas.List.Elements.{All-cons, All-map, All-nil}}
+use Rattle.std.proofs.{lemmas.{Grind.common_steps, List.Elements.{All-cons, All-map, All-nil}}, Common.{◌≡◌, ◌≤◌, ℕ, Bool, true, false}}
+use Rattle.std.proofs.Common.{List, [], ◌∷◌, get_or, Option, Some, None, sym, subst, ◌∙◌, arith, if◌then◌else◌}
 use Rattle.std.specs.{Prelude.unwrap_or, List.All}
-use Rattle.lc_rules.specs.declared.states.TextState.{TextState}
-use Rattle.lc_sheet.specs.{Keys.{are_one_key, has_key}, Sheets.{SheetModel, line_of, sheet_format}, Values.{ValueModel, summed, word}}
-use Rattle.lc_sheet.specs.declared.{column.{Column.Column, Number.Number}, key.Key.Key}
-use Rattle.lc_sheet.specs.declared.{form.{Form.Form, Shares.Shares}, table_options.TableOptions.TableOptions}
+use Rattle.lc_rules.specs.{declared.states.TextState.TextState, Attributes.StateModel}
+use Rattle.lc_sheet.specs.{Keys.{has_key, are_of_files}, Sheets.{SheetModel, line_of, sheet_format}, Values.{ValueModel, summed, word}}
+use Rattle.lc_sheet.specs.declared.{column.{Column.Column, Number.Number}, key.Key.Key, form.{Form.Form, Shares.Shares}}
+use Rattle.lc_sheet.specs.declared.table_options.TableOptions.{TableOptions}
 use Rattle.lc_walk.specs.{Sums.{no_files, plus}, declared.{report.Report.Report, tally.sums.Sums.Sums}}
-use Rattle.lc_sheet.specs.Keys.{are_of_files}
-use Rattle.lc_rows.specs.Kinds.{NamedSumsModel, bar_value, directory_in, extension_value, kept_value, key_value, row_value}
-use Rattle.lc_rows.specs.Kinds.{share_value, sums_value, state_at, state_value, text_value}
-use Rattle.lc_rows.specs.RowKeys.{RowKey, ShownRowModel, row_key, sums_of_shown}
-use Rattle.lc_rows.specs.SheetColumns.{row_columns, sums_columns}
-use Rattle.lc_rows.specs.{SheetLaws.{ClassPartsLaw, HasClassTotals, IsSectionWithin, IsWithin, SheetPartsLaw}, Sheets.form_of}
-use Rattle.lc_rows.specs.Sheets.{listed_files, others_lines, section_of, share_number, shares_of, sheet_of, totals_lines}
-use Rattle.lc_rows.specs.{ShownRows.number_in, Views.{first_of, view_of}}
+use Rattle.lc_rows.specs.Kinds.{NamedSumsModel, bar_value, directory_in, extension_value, kept_value, key_value, row_value, share_value}
+use Rattle.lc_rows.specs.{Kinds.{sums_value, state_value, text_value}, RowKeys.{RowKey, ShownRowModel, row_key, sums_of_shown}}
+use Rattle.lc_rows.specs.{SheetColumns.{row_columns, sums_columns}, SheetLaws.{ClassPartsLaw, HasClassTotals, IsSectionWithin, IsWithin}}
+use Rattle.lc_rows.specs.{SheetLaws.SheetPartsLaw, Sheets.{form_of, listed_files, others_lines, section_of, share_number, shares_of}}
+use Rattle.lc_rows.specs.{Sheets.{sheet_of, totals_lines}, ShownRows.number_in, Views.{first_of, view_of}}
 use Rattle.lc_rows.proofs.{RowLaws.totals_law, RowParts.{first_are, rows_within_largest, rows_within_sum}, SheetLawProofs.binary_line}
 use Rattle.lc_rows.proofs.{SheetLawProofs.{number_plus, sorted_totals, text_line, total_line}, ViewLaws.cut_totals_law}
 use Rattle.lc_rules.specs.declared.states.TextState.TheVariants as text
 use Rattle.lc_sheet.specs.declared.column.Column.TheVariants as column
 use Rattle.lc_sheet.specs.declared.key.Key.TheVariants as key
-use Rattle.lc_rules.specs.Attributes.{StateModel}
 use Rattle.lc_rules.specs.Attributes as state
 
 -- ---- values
@@ -39,24 +35,13 @@ directory_within (Some []) = tt
 directory_within (Some (b ∷ bs)) = tt
 
 text_within : (state : TextState) → IsWithin (text_value state)
-text_within text.Set = tt
-text_within text.Unset = tt
-text_within text.Auto = tt
-text_within text.Other = tt
-text_within text.Unspecified = tt
+text_within state = grind (arith, common_steps)
 
 state_within : (s : StateModel) → IsWithin (state_value s)
-state_within state.set = tt
-state_within state.unset = tt
-state_within (state.value bytes) = tt
-state_within state.unspecified = tt
+state_within s = grind (arith, common_steps)
 
 key_within : (k : Key) (r : RowKey) → IsWithin (key_value k r)
-key_within key.Dir r = directory_within r.directory
-key_within (key.Attribute place) r = state_within (state_at r.key.attributes place)
-key_within key.Ext r = extension_within r.key.tally.extension
-key_within key.Text r = text_within r.key.tally.text
-key_within key.Eol r = tt
+key_within k r = grind (arith, common_steps, directory_within, state_within, extension_within, text_within)
 
 share_within : (shown : Bool) (q : Shares) (s : Sums) → number_in q.number s ≤ q.total
     → IsWithin (share_value (if shown then Some q else None) s)
@@ -104,10 +89,7 @@ named_within false n = tt
 
 sums_within : (form : Form) (s : NamedSumsModel) → IsWithin (share_value form.shares s.sums) → (c : Column)
     → IsWithin (sums_value form s c)
-sums_within form s part (column.Key k) = named_within (are_one_key form.first k) s.name
-sums_within form s part (column.Number n) = tt
-sums_within form s part column.Share = part
-sums_within form s part other = tt
+sums_within form s part c = grind (arith, common_steps, named_within)
 
 sums_line_within : (form : Form) (cs : List Column) (s : NamedSumsModel) → IsWithin (share_value form.shares s.sums)
     → All IsWithin (line_of (sums_value form) cs s)
@@ -130,20 +112,11 @@ sums_section_within options totals shown cs lines under =
 -- the sums over the rows that are cut off, if they are a part of all
 others_under : (n : Number) (rest totals : Sums) (others : Option Sums) → plus rest (unwrap_or others no_files) ≡ totals
     → All (IsUnder n totals) (others_lines others)
-others_under n rest totals None whole = All-nil (IsUnder n totals)
-others_under n rest totals (Some s) whole =
-    let both = number_plus n rest s in
-    let all = ap (number_in n) whole in
-    All-cons (IsUnder n totals) (record { name = codes "others"; sums = s }) [] (omega arith) (All-nil (IsUnder n totals))
+others_under n rest totals others whole = grind (arith, common_steps, number_plus)
 
 classes_under : (n : Number) (r : Report) → HasClassTotals r
     → All (IsUnder n r.totals) (totals_lines r.totals r.classes)
-classes_under n r totals =
-    let both = number_plus n r.classes.text r.classes.binary in
-    let all = ap (number_in n) totals in
-    All-cons (IsUnder n r.totals) (total_line r.totals) (text_line r.classes ∷ binary_line r.classes ∷ []) (omega arith)
-    (All-cons (IsUnder n r.totals) (text_line r.classes) (binary_line r.classes ∷ []) (omega arith)
-    (All-cons (IsUnder n r.totals) (binary_line r.classes) [] (omega arith) (All-nil (IsUnder n r.totals))))
+classes_under n r totals = grind (arith, common_steps, number_plus, total_line, text_line, binary_line)
 
 -- ---- the laws
 

@@ -1,8 +1,8 @@
 -- The rows of a tree have the sums over the files in each directory and below it.
-use Rattle.std.proofs.Common.{◌≡◌, ℕ, ◌+◌, ◌<◌, ◌≤◌, suc, zero, Bool, true, false, cond, ◌&&◌, List, [], ◌∷◌, map, Some, refl, sym, ◌∙◌}
-use Rattle.std.proofs.{Common.{ap, subst, arith}, lemmas.Bool.{false_from_ne_true, Decides.nat_tests}}
+use Rattle.std.proofs.lemmas.{Grind.common_steps, Bool.{false_from_ne_true, Decides.nat_tests}}
 use Rattle.std.proofs.lemmas.{List.{FromFn.sum_by-map-range_with_len_more, Sums.{sum_by-append, sum_by-cons}}, Map.Text.is_eq-slice_cmp}
-use Rattle.std.proofs.lemmas.Slice.Eq.{bytes_eq-Decides}
+use Rattle.std.proofs.{lemmas.Slice.Eq.bytes_eq-Decides, Common.{◌≡◌, ℕ, ◌+◌, ◌<◌, ◌≤◌, suc, zero, Bool, true, false, cond, ◌&&◌, List, []}}
+use Rattle.std.proofs.Common.{◌∷◌, map, Some, refl, sym, ◌∙◌, ap, subst, arith}
 use Rattle.std.specs.{Cmp.tied_then, List.{filter, range_with_len, sum_by}, Prelude.{bytes_eq, nat_eq}}
 use Rattle.lc_tree.specs.ByteOrder.{bytes_cmp}
 use Rattle.lc_sheet.specs.declared.table_options.Columns.{Columns}
@@ -10,18 +10,14 @@ use Rattle.lc_walk.proofs.{Filtered.{part, sum_by-filter}, RowSums.same_sums}
 use Rattle.lc_walk.specs.{Sums.one_file, declared.tally.sums.Sums.Sums}
 use Rattle.lc_rows.specs.{Directories.{directory_of, level_of}, Laws.{TreeLaw, sums_of_lines}, RowKeys.{FileKey, RowKey, ShownRowModel}}
 use Rattle.lc_rows.specs.RowKeys.{file_key_cmp, row_key, row_key_cmp, rows_within, same_file_key, same_row_key, sums_of_shown}
-use Rattle.lc_rows.specs.ShownRows.{file_key, key_in, part_of_file}
-use Rattle.lc_rows.specs.TreeRows.{is_below, levels_above, parts_above, tree_parts}
+use Rattle.lc_rows.specs.{ShownRows.{file_key, key_in, part_of_file}, TreeRows.{is_below, levels_above, parts_above, tree_parts}}
 use Rattle.lc_rows.proofs.{Folding.{alike_permuted, alike_sums}, Levels.level_at}
 use Rattle.lc_level.specs.Level.{FileLineModel}
 
 -- sums over a range of numbers of which none counts, and of which one counts
 module _ {X : Type 0} (g : X → ℕ) (f : ℕ → X) where
   pub one_more : (n : ℕ) → sum_by g (map f (range_with_len 0 (suc n))) ≡ sum_by g (map f (range_with_len 0 n)) + g (f n)
-  one_more n =
-      let next : n + 1 ≡ suc n = omega arith in
-      subst (λ k. sum_by g (map f (range_with_len 0 k)) ≡ sum_by g (map f (range_with_len 0 n)) + g (f n)) next
-      (sum_by-map-range_with_len_more g f 0 n n (omega arith))
+  one_more n = grind (arith, common_steps, sum_by-map-range_with_len_more)
 
   none_counts : (n : ℕ) → ((j : ℕ) → j < n → g (f j) ≡ 0) → sum_by g (map f (range_with_len 0 n)) ≡ 0
   none_counts zero none = refl
@@ -32,16 +28,7 @@ module _ {X : Type 0} (g : X → ℕ) (f : ℕ → X) where
 
   one_step : (m n : ℕ) (b : Bool) → nat_eq m n ≡ b → m < suc n → ((j : ℕ) → j < suc n → (j ≡ m → ⊥) → g (f j) ≡ 0)
       → (m < n → sum_by g (map f (range_with_len 0 n)) ≡ g (f m)) → sum_by g (map f (range_with_len 0 (suc n))) ≡ g (f m)
-  one_step m n true e lt none rest =
-      let same : m ≡ n = grind (arith, nat_tests) in
-      let before = none_counts n (λ j below. none j (omega arith) (λ s. absurd (omega arith))) in
-      let last : g (f n) ≡ g (f m) = ap (λ k. g (f k)) (sym same) in
-      omega (arith, one_more n)
-  one_step m n false e lt none rest =
-      let less : m < n = grind (arith, nat_tests) in
-      let before = rest less in
-      let last = none n (omega arith) (λ s. absurd (omega arith)) in
-      omega (arith, one_more n)
+  one_step m n b e lt none rest = grind (arith, common_steps, nat_tests, none_counts, one_more)
 
   one_counts : (m n : ℕ) → m < n → ((j : ℕ) → j < n → (j ≡ m → ⊥) → g (f j) ≡ 0) → sum_by g (map f (range_with_len 0 n)) ≡ g (f m)
   one_counts m zero lt none = absurd (omega arith)

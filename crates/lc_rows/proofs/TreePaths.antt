@@ -1,8 +1,7 @@
 -- The directories of the paths of a tree, whose segments are all names.
-use Rattle.std.proofs.Common.{◌≡◌, ℕ, ◌+◌, ◌-◌, ◌<◌, ◌≤◌, suc, zero, Bool, true, false, bytes_eq, codes, if◌then◌else◌, List, [], ◌∷◌}
-use Rattle.std.proofs.Common.{◌++◌, length, take, drop, Option, Some, None, refl, sym, ◌∙◌, ap, arith, length-append}
-use Rattle.std.proofs.lemmas.{Bool.{and_parts, false_from_ne_true}, List.{take_all, take_at, Folds.list_all-append}}
-use Rattle.std.proofs.lemmas.Slice.Eq.{bytes_eq-Decides}
+use Rattle.std.proofs.lemmas.{Grind.common_steps, Bool.{and_parts, false_from_ne_true}, List.{take_all, take_at, Folds.list_all-append}}
+use Rattle.std.proofs.{lemmas.Slice.Eq.bytes_eq-Decides, Common.{◌≡◌, ℕ, ◌+◌, ◌-◌, ◌<◌, ◌≤◌, suc, zero, Bool, true, false, if◌then◌else◌}}
+use Rattle.std.proofs.Common.{List, [], ◌∷◌, ◌++◌, length, take, drop, Option, Some, None, refl, sym, ◌∙◌, ap, arith, length-append}
 use Rattle.std.specs.{List.{join_with_byte, list_all}, Prelude.slice_index}
 use Rattle.memchr.specs.Find.{IsLastByte, is_byte as found}
 use Rattle.lc_glob.proofs.Naming.{at_last_slash, no_last_slash}
@@ -63,15 +62,7 @@ first_of_names (suc n) (s ∷ ss) good = next (is_no_name s) refl
 
 -- the directory of a path of names is not the top
 named_before : (front : List ℕ) → list_all is_good_name (segments_of front) ≡ true → directory_before front ≡ front
-named_before [] good = absurd (cc)
-named_before (b ∷ bs) good = ap (λ t. if t then [] else b ∷ bs) (false_from_ne_true _ no_dot)
-  where
-    no_dot : bytes_eq (b ∷ bs) (codes ".") ≡ true → ⊥
-    no_dot e =
-        let is : b ∷ bs ≡ codes "." = (bytes_eq-Decides (b ∷ bs) (codes ".")).0 e in
-        let both : list_all is_good_name (segments_of (codes ".")) ≡ true =
-        ap (λ l. list_all is_good_name (segments_of l)) (sym is) ∙ good in
-        absurd (cc)
+named_before front good = grind (arith, common_steps, false_from_ne_true, bytes_eq-Decides)
 
 good_front : (ps qs : List (List ℕ)) → list_all is_good_name (ps ++ qs) ≡ true → list_all is_good_name ps ≡ true
 good_front ps qs good =

@@ -1,9 +1,9 @@
 -- What is true of the rows and files that a table shows where it is cut.
-use Rattle.std.proofs.Common.{◌≡◌, ◌∙◌, ℕ, ◌+◌, ◌≤◌, ◌<◌, false, List, [], ◌∷◌, length, get_or, take, drop, Option, Some, None, refl, sym}
-use Rattle.std.proofs.Common.{ap, arith, subst}
+use Rattle.std.proofs.lemmas.Grind.{common_steps}
 use Rattle.std.proofs.lemmas.List.{get_or-drop, get_or-take, get_or_default, length-drop, length-take-le, Elements.All-nil}
 use Rattle.std.proofs.lemmas.List.{Sums.sum_by-take-drop, Sorted.{IsPermutation-refl, sorted_far}}
-use Rattle.std.proofs.lemmas.Map.Keys.{ge_from_not_lt}
+use Rattle.std.proofs.{lemmas.Map.Keys.ge_from_not_lt, Common.{◌≡◌, ◌∙◌, ℕ, ◌+◌, ◌≤◌, ◌<◌, false, List, [], ◌∷◌, length, get_or, take}}
+use Rattle.std.proofs.Common.{drop, Option, Some, None, refl, sym, ap, arith, subst}
 use Rattle.std.specs.{Prelude.unwrap_or, List.Sorted.IsPermutation, Ordering.{is_lt, ordering_then}, declared.cmp.Ordering.Ordering}
 use Rattle.std.specs.declared.cmp.Ordering.TheVariants.{Less, Equal, Greater}
 use Rattle.lc_sheet.specs.declared.column.Number.{Number}
@@ -22,11 +22,7 @@ some_sums (r ∷ rs) = refl
 -- the first rows and those after them
 both_sums : (top : Option ℕ) (rs : List ShownRowModel)
     → plus (sums_of_shown (first_of top rs)) (sums_of_shown (rest_of top rs)) ≡ sums_of_shown rs
-both_sums None rs = same_sums _ _ (omega arith) (omega arith) (omega arith) (omega arith)
-both_sums (Some n) rs =
-    same_sums _ _ (sum_by-take-drop (λ (r : ShownRowModel). r.sums.files) rs n)
-    (sum_by-take-drop (λ (r : ShownRowModel). r.sums.lines) rs n)
-    (sum_by-take-drop (λ (r : ShownRowModel). r.sums.blank) rs n) (sum_by-take-drop (λ (r : ShownRowModel). r.sums.bytes) rs n)
+both_sums top rs = grind (arith, common_steps, same_sums, sum_by-take-drop)
 
 -- the rows that are shown and the sums over the others add up
 pub cut_totals_law : CutTotalsLaw

@@ -138,29 +138,20 @@ abbrev pub line_of_rule : Option (RuleSource × ℕ) → ValueModel
 line_of_rule None = blank
 line_of_rule (Some rule) = number rule.1
 
-abbrev pub rule_line_value : SkipReason → ValueModel
-rule_line_value reason = line_of_rule (rule_of reason)
-
 -- the name of the attribute, if an attribute skips the entry
 abbrev pub name_of_attribute : Option (List ℕ) → ValueModel
 name_of_attribute None = blank
 name_of_attribute (Some n) = bytes_value n
-
-abbrev pub attribute_value : SkipReason → ValueModel
-attribute_value reason = name_of_attribute (attribute_of reason)
-
-abbrev pub entry_value : SkippedLineModel → ValueModel
-entry_value l = name (record { front = []; bytes = l.path; end = skipped_end l.kind l.reason; line = None })
 
 abbrev pub skipped_value : Form → SkippedLineModel → Column → ValueModel
 skipped_value form l column.Path = path l.path
 skipped_value form l column.Kind = word (kind_word l.kind)
 skipped_value form l column.Reason = word (reason_word l.reason)
 skipped_value form l column.Place = place_value l.path l.reason
-skipped_value form l column.Entry = entry_value l
+skipped_value form l column.Entry = name (record { front = []; bytes = l.path; end = skipped_end l.kind l.reason; line = None })
 skipped_value form l column.File = rule_file_value l.path l.reason
-skipped_value form l column.Line = rule_line_value l.reason
-skipped_value form l column.Attribute = attribute_value l.reason
+skipped_value form l column.Line = line_of_rule (rule_of l.reason)
+skipped_value form l column.Attribute = name_of_attribute (attribute_of l.reason)
 skipped_value form l other = blank
 
 -- ---- what could not be read

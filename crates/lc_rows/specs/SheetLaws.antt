@@ -18,7 +18,7 @@ same_number Blank Blank = true
 same_number Bytes Bytes = true
 same_number n m = false
 
--- whether a column has this number
+-- whether a column is the one of this number
 abbrev pub is_number : Number → Column → Bool
 is_number n (column.Number m) = same_number n m
 is_number n other = false

@@ -1,7 +1,7 @@
 //! Adding up the parts of rows, such as files, into one row for each key.
 
 ghost use Rattle.std.specs.Prelude.{◌≡◌, IfOk};
-ghost use Rattle.std.specs.List.Sorted.{IsPermutation, IsSortedByKey};
+ghost use Rattle.std.specs.List.Sorted.{IsSortedByKey};
 ghost use Rattle.lc_rows.specs.AddingUp.{IsAdded};
 ghost use Rattle.lc_rows.specs.RowKeys.{row_key, row_key_cmp};
 ghost use Rattle.lc_rows.specs.ShownRows.{AreAddedUp};
@@ -9,13 +9,6 @@ ghost use Rattle.lc_rows.specs.ShownRows.{AreAddedUp};
 use crate::parts::Part;
 use crate::shown_row::ShownRow;
 use std::alloc::{AllocError, Global};
-
-fn sort(parts: &mut Vec<Part<'_, '_>>)
-    ensures same { IsPermutation parts.old.items parts.new.items }
-    ensures order { IsSortedByKey row_key row_key_cmp parts.new.items }
-{
-    parts.sort_unstable_by(|a, b| a.key.compare(&b.key));
-}
 
 /// Returns the last row with the part added, if both have the same key. Otherwise pushes the last row, and returns a row of the part alone.
 fn add_part<'a>(
@@ -75,7 +68,7 @@ pub(crate) fn added_up<'a>(
 ) -> Result<Vec<ShownRow<'a>>, AllocError>
     ensures { IfOk result (λ rows. AreAddedUp parts.entry.items rows.items) }
 {
-    sort(&mut parts);
+    parts.sort_unstable_by(|a, b| a.key.compare(&b.key));
     let rows = added_in_order(alloc, &parts)?;
     Ok(rows)
 }

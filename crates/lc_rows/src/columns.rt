@@ -3,8 +3,7 @@
 ghost use Rattle.std.specs.Prelude.{◌≡◌, ◌++◌, if◌then◌else◌, [], IfOk, OnOk};
 ghost use Rattle.lc_rows.specs.SheetColumns.{attribute_columns, column_if, file_columns, first_key, keeps_columns, key_columns};
 ghost use Rattle.lc_rows.specs.SheetColumns.{row_columns, share_columns, shows_key, skipped_columns, sums_columns};
-ghost use Rattle.std.specs.List.{find, flat_map};
-ghost use Rattle.lc_sheet.specs.declared.column.Column.TheVariants as column;
+ghost use Rattle.std.specs.List.{find};
 ghost use Rattle.std.specs.Option.{option_copied};
 ghost use Rattle.lc_sheet.specs.Keys.{report_keys};
 ghost use Rattle.lc_sheet.specs.Sheets.{sheet_format};
@@ -103,10 +102,14 @@ pub fn first_key(format: Format, by: Columns) -> Key
     }
 }
 
-fn share_columns(format: Format) -> &'static [Column]
-    ensures { result.now ≡ share_columns format }
+/// Returns the columns of shares, if the options request them.
+fn share_columns(options: &TableOptions) -> &'static [Column]
+    ensures { result.now ≡ if options.now.share then share_columns (sheet_format options.now.output) else [] }
 {
-    match format {
+    if !options.share {
+        return &[];
+    }
+    match options.output.sheet_format() {
         Format::Table => &[Column::Share, Column::Bar],
         Format::Markdown => &[Column::Share],
         Format::Tsv | Format::Json | Format::Csv => &[],
@@ -123,34 +126,16 @@ pub fn push_attributes(columns: &mut Vec<Column>, by: Columns) -> Result<(), All
     Ok(())
 }
 
-fn push_report_keys(columns: &mut Vec<Column>, all: bool, by: Columns) -> Result<(), AllocError>
-    ensures { OnOk result (columns.new.items
-        ≡ columns.old.items ++ flat_map (λ key. column_if (shows_key all by key) (column.Key key)) report_keys) }
-{
-    for key in &REPORT_KEYS {
-        push_if(columns, shows_key(all, by, *key), Column::Key(*key))?;
-    }
-    Ok(())
-}
-
 /// Adds the columns of the rows' keys, as [`first_key`] chooses the first of them: all of a report's rows if `all` is true.
 pub fn push_keys(columns: &mut Vec<Column>, all: bool, by: Columns) -> Result<(), AllocError>
     ensures { OnOk result (columns.new.items ≡ columns.old.items ++ key_columns all by) }
 {
     push_if(columns, by.dir.is_some(), Column::Key(Key::Dir))?;
     push_attributes(columns, by)?;
-    push_report_keys(columns, all, by)
-}
-
-fn push_shares(columns: &mut Vec<Column>, options: &TableOptions) -> Result<(), AllocError>
-    ensures { OnOk result (columns.new.items
-        ≡ columns.old.items ++ (if options.now.share then share_columns (sheet_format options.now.output) else [])) }
-{
-    if options.share {
-        columns.extend_from_slice(share_columns(options.output.sheet_format()))
-    } else {
-        Ok(())
+    for key in &REPORT_KEYS {
+        push_if(columns, shows_key(all, by, *key), Column::Key(*key))?;
     }
+    Ok(())
 }
 
 /// Makes the columns of the rows of a table.
@@ -164,7 +149,7 @@ pub(crate) fn row_columns(alloc: Global, options: &TableOptions) -> Result<Vec<C
         options.by,
     )?;
     columns.extend_from_slice(&NUMBERS)?;
-    push_shares(&mut columns, options)?;
+    columns.extend_from_slice(share_columns(options))?;
     Ok(columns)
 }
 

@@ -20,17 +20,6 @@ pub fn split_at_top<T>(top: Option<u32>, items: &[T]) -> (&[T], &[T])
     }
 }
 
-fn sums_of(rows: &[ShownRow<'_>]) -> Result<Sums, AllocError>
-    ensures sums { IfOk result (λ sums. sums ≡ sums_of_shown rows.now) }
-    ensures overflow { IfErr result (λ _. IsInRange (sums_of_shown rows.now) → ⊥) }
-{
-    let mut sums = Sums::none();
-    for row in rows {
-        sums = sums.checked_add(row.sums).ok_or(AllocError)?;
-    }
-    Ok(sums)
-}
-
 pub(crate) fn sums_of_some(rows: &[ShownRow<'_>]) -> Result<Option<Sums>, AllocError>
     ensures sums { IfOk result (λ sums. sums ≡ sums_of_some rows.now) }
     ensures overflow { IfErr result (λ _. IsInRange (sums_of_shown rows.now) → ⊥) }
@@ -38,6 +27,9 @@ pub(crate) fn sums_of_some(rows: &[ShownRow<'_>]) -> Result<Option<Sums>, AllocE
     if rows.is_empty() {
         return Ok(None);
     }
-    let sums = sums_of(rows)?;
+    let mut sums = Sums::none();
+    for row in rows {
+        sums = sums.checked_add(row.sums).ok_or(AllocError)?;
+    }
     Ok(Some(sums))
 }

@@ -3,7 +3,7 @@
 ghost use Rattle.std.specs.Prelude.{◌≡◌, ◌-◌, [], MatchOption, length, take};
 ghost use Rattle.std.specs.List.{join_with_byte};
 ghost use Rattle.lc_glob.specs.Bytes.{slash};
-ghost use Rattle.lc_glob.specs.Path.{is_no_name, segments_of};
+ghost use Rattle.lc_glob.specs.Path.{segments_of};
 ghost use Rattle.lc_rows.specs.Directories.{after_name, directory_before, directory_of, first_names, level_of, name_of, names_in};
 ghost use Rattle.lc_rows.specs.Directories.{own_part, parent_of};
 
@@ -42,17 +42,14 @@ pub fn name_of(path: &[u8]) -> &[u8]
     split_path(path).1
 }
 
-fn is_no_name(segment: &[u8]) -> bool
-    ensures { result ≡ is_no_name segment.now }
-{
-    matches!(segment, [] | [b'.'] | [b'.', b'.'])
-}
-
 /// Returns how many names a segment of a path counts as: none for the empty segment, `.` and `..`, and 1 for any other.
 fn names_in(segment: &[u8]) -> usize
     ensures { result ≡ names_in segment.now }
 {
-    if is_no_name(segment) { 0 } else { 1 }
+    match segment {
+        [] | [b'.'] | [b'.', b'.'] => 0,
+        _ => 1,
+    }
 }
 
 /// Returns what follows the slash after the first `number` names of a path, or `None` if no slash follows them.

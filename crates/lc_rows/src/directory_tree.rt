@@ -2,12 +2,11 @@
 
 ghost use Rattle.std.specs.Prelude.{◌≡◌, ◌≤◌, ◌++◌, drop, length, min, map, option_map, IfOk, OnOk};
 ghost use Rattle.std.specs.List.{flat_map};
-ghost use Rattle.std.specs.List.Sorted.{IsNonDecreasingBy, IsPermutation, IsSortedByKey};
+ghost use Rattle.std.specs.List.Sorted.{IsNonDecreasingBy};
 ghost use Rattle.lc_rows.specs.Directories.{first_names};
 ghost use Rattle.lc_rows.specs.LevelParts.{AreBelow, HaveSumsOf, height, level_in, level_parts, next_above, own_row, row_at};
-ghost use Rattle.lc_rows.specs.RowKeys.{row_key};
-ghost use Rattle.lc_rows.specs.ShownRows.{AreAddedUp, part_of_file};
-ghost use Rattle.lc_rows.specs.TreeRows.{AreTreeRows, depth_first_cmp};
+ghost use Rattle.lc_rows.specs.ShownRows.{AreAddedUp};
+ghost use Rattle.lc_rows.specs.TreeRows.{AreTreeRows};
 
 use crate::adding_up::added_up;
 use crate::directories::{first_names, level_of};
@@ -29,22 +28,13 @@ fn levels_above(depth: u32, directory: Option<&[u8]>) -> usize
     }
 }
 
-/// Cuts the path of a directory after its first `level` names.
-fn cut_at<'a>(level: usize, directory: Option<&'a [u8]>) -> Option<&'a [u8]>
-    ensures { option_map (λ s. s.now) result ≡ option_map (first_names level) (option_map (λ s. s.now) directory.entry) }
-{
-    match directory {
-        None => None,
-        Some(directory) => Some(first_names(level, directory)),
-    }
-}
-
 /// Makes the part that a row adds to a directory above its own: the path of the row's directory is cut after `level` names.
 fn part_at<'a, 's>(level: usize, row: &'s ShownRow<'a>) -> Part<'a, 's>
     ensures { result ≡ row_at level row.now }
 {
+    let directory = row.key.directory;
     let key = RowKeyRef {
-        directory: cut_at(level, row.key.directory),
+        directory: directory.map(|directory| first_names(level, directory)),
         ..row.key.copied()
     };
     Part::shown(key, &row.sums)
@@ -79,21 +69,6 @@ fn push_next<'a, 's>(
     Ok(())
 }
 
-/// Makes the part that each row adds to the directory right above its own.
-fn next_parts<'a, 's>(
-    alloc: Global,
-    depth: u32,
-    rows: &'s [ShownRow<'a>],
-) -> Result<Vec<Part<'a, 's>>, AllocError>
-    ensures { IfOk result (λ parts. parts.items ≡ flat_map (next_above depth) rows.now) }
-{
-    let mut parts = Vec::new(alloc);
-    for row in rows {
-        push_next(depth, row, &mut parts)?;
-    }
-    Ok(parts)
-}
-
 /// Adds up what rows add to the directories right above their own.
 fn rows_above<'a>(
     alloc: Global,
@@ -102,7 +77,10 @@ fn rows_above<'a>(
 ) -> Result<Vec<ShownRow<'a>>, AllocError>
     ensures { IfOk result (λ above. AreAddedUp (flat_map (next_above depth) rows.now) above.items) }
 {
-    let parts = next_parts(alloc, depth, rows)?;
+    let mut parts = Vec::new(alloc);
+    for row in rows {
+        push_next(depth, row, &mut parts)?;
+    }
     let above = added_up(alloc, parts)?;
     Ok(above)
 }
@@ -112,14 +90,6 @@ fn height(depth: u32, row: &ShownRow<'_>) -> usize
     ensures { result ≡ height depth row.now }
 {
     depth as usize - levels_above(depth, row.key.directory)
-}
-
-/// Sorts rows by their heights, the deepest first.
-fn sort_by_height(depth: u32, rows: &mut Vec<ShownRow<'_>>)
-    ensures same { IsPermutation rows.old.items rows.new.items }
-    ensures order { IsNonDecreasingBy (height depth) rows.new.items }
-{
-    rows.sort_unstable_by_key(|row| height(depth, row));
 }
 
 /// Returns how many rows come before the first row with fewer than `level` directories above its own. The deepest rows come first.
@@ -176,36 +146,6 @@ fn all_levels<'a>(
     Ok(all)
 }
 
-/// Adds up the files that are directly in each directory, into one row for each key.
-fn rows_with_files<'a>(
-    alloc: Global,
-    files: &'a [FileLine],
-    by: Columns,
-    depth: u32,
-) -> Result<Vec<ShownRow<'a>>, AllocError>
-    ensures { IfOk result (λ rows. AreAddedUp (map (part_of_file by (Some depth)) files.entry.now) rows.items) }
-{
-    let parts = file_parts(alloc, files, by, Some(depth))?;
-    let rows = added_up(alloc, parts)?;
-    Ok(rows)
-}
-
-/// Adds up the rows that have the same key.
-fn rows_added_up<'a>(alloc: Global, rows: &[ShownRow<'a>]) -> Result<Vec<ShownRow<'a>>, AllocError>
-    ensures { IfOk result (λ added. AreAddedUp rows.now added.items) }
-{
-    let parts = shown_parts(alloc, rows)?;
-    let added = added_up(alloc, parts)?;
-    Ok(added)
-}
-
-fn sort(rows: &mut Vec<ShownRow<'_>>)
-    ensures same { IsPermutation rows.old.items rows.new.items }
-    ensures order { IsSortedByKey row_key depth_first_cmp rows.new.items }
-{
-    rows.sort_unstable_by(|a, b| a.key.compare_depth_first(&b.key));
-}
-
 /// Returns a row for each directory that has files in it or below it, with the sums over these files. The rows are depth first: each
 /// directory comes right before the directories below it, and the top directory comes first. The path of a directory is cut after `depth`
 /// names: the files in deeper directories count as files of the directory whose path is left.
@@ -224,10 +164,12 @@ pub fn tree_rows<'a>(
 ) -> Result<Vec<ShownRow<'a>>, AllocError>
     ensures { IfOk result (λ rows. AreTreeRows depth by files.entry.now rows.items) }
 {
-    let mut with_files = rows_with_files(alloc, files, by, depth)?;
-    sort_by_height(depth, &mut with_files);
+    let files_of_directories = file_parts(alloc, files, by, Some(depth))?;
+    let mut with_files = added_up(alloc, files_of_directories)?;
+    with_files.sort_unstable_by_key(|row| height(depth, row));
     let all = all_levels(alloc, &with_files, depth)?;
-    let mut rows = rows_added_up(alloc, &all)?;
-    sort(&mut rows);
+    let parts = shown_parts(alloc, &all)?;
+    let mut rows = added_up(alloc, parts)?;
+    rows.sort_unstable_by(|a, b| a.key.compare_depth_first(&b.key));
     Ok(rows)
 }

@@ -1,14 +1,13 @@
 //! The part of a report that meets some conditions.
 
-ghost use Rattle.std.specs.Prelude.{◌≡◌, ◌∷◌, ◌++◌, [], true, false, List, drop, length, map, filter, slice_index_or, IfErr, IfOk, IsOk, OnOk};
+ghost use Rattle.std.specs.Prelude.{◌≡◌, [], true, false, drop, length, map, filter, slice_index_or, IfErr, IfOk, IsOk, OnOk};
 ghost use Rattle.std.specs.List.{items_where_true};
 ghost use Rattle.lc_sheet.specs.Conditions.{meets, needs_files};
 ghost use Rattle.lc_walk.specs.ReportTotals.{counted_line};
 ghost use Rattle.lc_walk.specs.Sums.{IsInRange};
-ghost use Rattle.lc_walk.specs.Tally.{CountedFile, StandsFor};
+ghost use Rattle.lc_walk.specs.Tally.{StandsFor};
 ghost use Rattle.lc_walk.specs.TallyRows.{sums_of_rows};
-ghost use Rattle.lc_rows.specs.Kept.{IsKept, IsPart, IsPartWith, file_meets, row_meets, value_of_file, whole_form};
-ghost use Rattle.lc_rows.specs.Kinds.{row_value};
+ghost use Rattle.lc_rows.specs.Kept.{IsKept, IsPart, IsPartWith, file_meets, row_meets, whole_form};
 ghost use Rattle.lc_walk.specs.Classes.{classes_of};
 ghost use Rattle.lc_walk.specs.AllColumns.{all_columns};
 ghost use Rattle.lc_rows.specs.ShownRows.{part_of_row};
@@ -32,20 +31,12 @@ fn whole_form() -> Form
     }
 }
 
-/// Returns whether a file meets a condition.
-fn holds_of_file(condition: &Condition<'_>, file: &FileLine) -> bool
-    ensures { result ≡ meets condition.now.test (value_of_file file.now condition.now.column) }
-{
-    condition.holds(Files::value(file, whole_form(), condition.column))
-}
-
 /// Returns whether a file meets all conditions.
 fn file_meets(conditions: &[Condition<'_>], file: &FileLine) -> bool
     ensures { result ≡ file_meets conditions.now file.now }
 {
-    conditions
-        .iter()
-        .all(|condition| holds_of_file(condition, file))
+    let form = whole_form();
+    conditions.iter().all(|condition| condition.holds(Files::value(file, form, condition.column)))
 }
 
 /// Makes a row of a table with all columns from a row of a report.
@@ -58,21 +49,13 @@ fn shown_row(row: &TallyRow) -> ShownRow<'_>
     }
 }
 
-/// Returns whether the files of a row meet a condition.
-fn holds_of_row(condition: &Condition<'_>, row: &ShownRow<'_>) -> bool
-    ensures { result ≡ meets condition.now.test (row_value whole_form row.now condition.now.column) }
-{
-    condition.holds(Rows::value(row, whole_form(), condition.column))
-}
-
 /// Returns whether the files of a row meet all conditions.
 fn row_meets(conditions: &[Condition<'_>], row: &TallyRow) -> bool
     ensures { result ≡ row_meets conditions.now row.now }
 {
     let line = shown_row(row);
-    conditions
-        .iter()
-        .all(|condition| holds_of_row(condition, &line))
+    let form = whole_form();
+    conditions.iter().all(|condition| condition.holds(Rows::value(&line, form, condition.column)))
 }
 
 /// Keeps the files that meet all conditions.
@@ -103,23 +86,16 @@ fn sums_of(rows: &[TallyRow]) -> Result<(Sums, ClassSums), AllocError>
     }
 }
 
-/// Adds a file to a tally. An error means that an allocation failed, or that the tally has more files than any walk.
-fn add_file(tally: &mut Tally, file: &FileLine) -> Result<(), AllocError>
-    ensures { OnOk result ((fs : List CountedFile) → StandsFor tally.old fs → StandsFor tally.new (fs ++ counted_line file.now ∷ [])) }
-{
-    if tally.totals().files >= 1 << 63 {
-        return Err(AllocError);
-    }
-    tally.add(extension(name_of(&file.path)), file.text(), file.count)
-}
-
-/// Makes the tally of some files.
+/// Makes the tally of some files. An error means that an allocation failed, or that there are more files than in any walk.
 fn tally_of(alloc: Global, files: &[FileLine]) -> Result<Tally, AllocError>
     ensures { IfOk result (λ tally. StandsFor tally (map counted_line files.now)) }
 {
     let mut tally = Tally::new(alloc);
     for file in files {
-        add_file(&mut tally, file)?;
+        if tally.totals().files >= 1 << 63 {
+            return Err(AllocError);
+        }
+        tally.add(extension(name_of(&file.path)), file.text(), file.count)?;
     }
     Ok(tally)
 }
@@ -175,21 +151,6 @@ pub fn keep_marked(alloc: Global, marks: &[bool], report: &mut Report) -> Result
     count_files(alloc, report)
 }
 
-/// Keeps the files that meet the conditions, and makes the rows and all sums anew from these files. One of the conditions is on a number.
-fn keep_by_files(
-    alloc: Global,
-    conditions: &[Condition<'_>],
-    report: &mut Report,
-) -> Result<(), AllocError>
-    requires by_files { needs_files conditions.now ≡ true }
-    ensures kept { OnOk result (IsPart conditions.now report.old report.new) }
-    ensures faults { report.new.faults ≡ report.old.faults }
-    ensures lists { report.new.lists ≡ report.old.lists }
-{
-    keep_files(conditions, &mut report.files);
-    count_files(alloc, report)
-}
-
 /// The law that sums fit their types. The law is the contract of this function, which does nothing.
 fn are_in_range(sums: Sums)
     ensures { IsInRange sums }
@@ -197,8 +158,8 @@ fn are_in_range(sums: Sums)
     let _sums = sums;
 }
 
-/// Keeps the files and the rows that meet the conditions, and adds up all sums anew. No condition is on a number, so all files of a row
-/// meet the conditions, or none does.
+/// Keeps the files and the rows that meet the conditions, and adds up all sums anew. No condition is on a number or an attribute, so all
+/// files of a row meet the conditions, or none does.
 fn keep_by_rows(conditions: &[Condition<'_>], report: &mut Report) -> Result<(), AllocError>
     requires by_rows { needs_files conditions.now ≡ false }
     ensures kept { OnOk result (IsPart conditions.now report.old report.new) }
@@ -216,12 +177,13 @@ fn keep_by_rows(conditions: &[Condition<'_>], report: &mut Report) -> Result<(),
 }
 
 /// Keeps the part of a report that meets all conditions, in place. The function drops the files that do not meet the conditions. If a
-/// condition is on a number, such as `lines>1000`, the rows are then made anew from the files that are left. Otherwise the function drops
-/// the rows that do not meet the conditions. All sums are added up anew. If there are no conditions, the whole report is kept.
+/// condition is on a number, such as `lines>1000`, or on an attribute, the rows are then made anew from the remaining files. Otherwise the
+/// function drops the rows that do not meet the conditions. All sums are added up anew. If there are no conditions, the whole report is
+/// kept.
 ///
-/// Skipped entries, errors and the numbers of directories and entries stay as they are. If a condition is on a number, the report must list
-/// its files, and the function allocates memory. An error means that an allocation failed, or that the sums are larger than the sums of any
-/// walk.
+/// Skipped entries, errors and the numbers of directories and entries stay as they are. If a condition is on a number or an attribute, the
+/// report must list its files, and the function allocates memory. An error means that an allocation failed, or that the sums are larger
+/// than the sums of any walk.
 pub fn keep(
     alloc: Global,
     conditions: &[Condition<'_>],
@@ -236,7 +198,8 @@ pub fn keep(
         return Ok(());
     }
     if needs_files(conditions) {
-        keep_by_files(alloc, conditions, report)
+        keep_files(conditions, &mut report.files);
+        count_files(alloc, report)
     } else {
         keep_by_rows(conditions, report)
     }

@@ -1,10 +1,10 @@
 //! The parts that the rows of a table add up: the rows of a report, or its files.
 
-ghost use Rattle.std.specs.Prelude.{◌≡◌, ◌++◌, map, option_map, take, IfOk, OnOk};
+ghost use Rattle.std.specs.Prelude.{◌≡◌, ◌++◌, map, take, IfOk, OnOk};
 ghost use Rattle.lc_level.specs.FileAttributes.{owned_state};
 ghost use Rattle.lc_rows.specs.Directories.{first_names};
 ghost use Rattle.lc_rows.specs.Parts.{sums_of_source};
-ghost use Rattle.lc_rows.specs.RowKeys.{row_key, row_with};
+ghost use Rattle.lc_rows.specs.RowKeys.{row_with};
 ghost use Rattle.lc_rows.specs.ShownRows.{part_of_file, part_of_row, parts_of, tally_in};
 
 use crate::cut::split_at_top;
@@ -48,23 +48,6 @@ impl<'a, 's> Model for Part<'a, 's> {
     ghost view = { λ p. row_with p.key (sums_of_source p.source) };
 }
 
-impl Source<'_> {
-    fn sums(self) -> Sums
-        ensures { result ≡ sums_of_source self.entry }
-    {
-        match self {
-            Source::File(file) => Sums {
-                files: 1,
-                lines: u128::from(file.count.lines),
-                blank: u128::from(file.count.blank),
-                bytes: u128::from(file.count.bytes),
-            },
-            Source::Row(row) => row.sums(),
-            Source::Shown(sums) => *sums,
-        }
-    }
-}
-
 impl<'a, 's> Part<'a, 's> {
     /// Makes a part with this key and the sums of a row of a table.
     pub(crate) fn shown(key: RowKeyRef<'a>, sums: &'s Sums) -> Part<'a, 's>
@@ -80,7 +63,16 @@ impl<'a, 's> Part<'a, 's> {
     pub(crate) fn sums(&self) -> Sums
         ensures { result ≡ self.now.sums }
     {
-        self.source.sums()
+        match self.source {
+            Source::File(file) => Sums {
+                files: 1,
+                lines: u128::from(file.count.lines),
+                blank: u128::from(file.count.blank),
+                bytes: u128::from(file.count.bytes),
+            },
+            Source::Row(row) => row.sums(),
+            Source::Shown(sums) => *sums,
+        }
     }
 }
 
@@ -95,25 +87,6 @@ fn tally_in<'a>(by: Columns, key: KeyRef<'a>) -> KeyRef<'a>
             TextState::Unspecified
         },
         eol: if by.eol { key.eol } else { Eol::NoEnd },
-    }
-}
-
-fn row_part<'a>(by: Columns, row: &'a TallyRow) -> Part<'a, 'a>
-    ensures { result ≡ part_of_row by row.now }
-{
-    Part {
-        key: RowKeyRef::of(None, &[], tally_in(by, row.key())),
-        source: Source::Row(row),
-    }
-}
-
-/// Returns the path of a directory, cut after `depth` names, or none if there is no depth.
-fn cut_to(depth: Option<u32>, directory: &[u8]) -> Option<&[u8]>
-    ensures { option_map (λ cut. cut.now) result ≡ option_map (λ n. first_names n directory.entry.now) depth }
-{
-    match depth {
-        None => None,
-        Some(depth) => Some(first_names(depth as usize, directory)),
     }
 }
 
@@ -138,8 +111,9 @@ fn file_part<'a>(by: Columns, depth: Option<u32>, file: &'a FileLine) -> Part<'a
             eol: file.count.eol,
         },
     );
+    let directory = depth.map(|depth| first_names(depth as usize, parent));
     Part {
-        key: RowKeyRef::of(cut_to(depth, parent), first_states(by, file), key),
+        key: RowKeyRef::of(directory, first_states(by, file), key),
         source: Source::File(file),
     }
 }
@@ -153,7 +127,10 @@ fn row_parts<'a>(
 {
     let mut parts = Vec::with_capacity(alloc, rows.len())?;
     for row in rows {
-        parts.push(row_part(by, row))?;
+        parts.push(Part {
+            key: RowKeyRef::of(None, &[], tally_in(by, row.key())),
+            source: Source::Row(row),
+        })?;
     }
     Ok(parts)
 }

@@ -166,10 +166,5 @@ fn compare_directories(a: Option<&[u8]>, b: Option<&[u8]>) -> Ordering
 fn compare_bytes(a: Option<&[u8]>, b: Option<&[u8]>) -> Ordering
     ensures { result ≡ option_cmp bytes_cmp (option_map (λ s. s.now) a.entry) (option_map (λ s. s.now) b.entry) }
 {
-    match (a, b) {
-        (None, None) => Ordering::Equal,
-        (None, Some(_)) => Ordering::Less,
-        (Some(_), None) => Ordering::Greater,
-        (Some(a), Some(b)) => a.cmp(&b),
-    }
+    a.cmp(&b)
 }

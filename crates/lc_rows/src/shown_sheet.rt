@@ -1,9 +1,9 @@
 //! The shown part of a report, and its sheet.
 
-ghost use Rattle.std.specs.Prelude.{◌≡◌, if◌then◌else◌, Option, Some, None, IfOk};
+ghost use Rattle.std.specs.Prelude.{◌≡◌, Option, Some, None, IfOk};
 ghost use Rattle.lc_rows.specs.Sheets.{HasFiles, files_section, form_of, largest, listed_files, others_lines};
-ghost use Rattle.lc_rows.specs.Sheets.{share_number, shares_of, sheet_of, totals_lines};
-ghost use Rattle.lc_rows.specs.Views.{first_of, rest_of, sums_of_some, view_of};
+ghost use Rattle.lc_rows.specs.Sheets.{sheet_of, totals_lines};
+ghost use Rattle.lc_rows.specs.Views.{first_of, sums_of_some, view_of};
 ghost use Rattle.lc_rows.specs.WalkedReports.{HasFilesFor};
 
 use crate::columns::{
@@ -72,21 +72,16 @@ fn largest(number: Number, rows: &[ShownRow<'_>]) -> u128
     most
 }
 
-fn shares_of(number: Number, totals: Sums, rows: &[ShownRow<'_>]) -> Shares
-    ensures { result ≡ shares_of number totals rows.now }
-{
-    Shares {
-        number,
-        total: number_in(number, totals),
-        largest: largest(number, rows),
-    }
-}
-
 fn form_of(options: &TableOptions, totals: Sums, rows: &[ShownRow<'_>]) -> Form
     ensures { result ≡ form_of options.now totals rows.now }
 {
     let shares = if options.share {
-        Some(shares_of(options.sort.unwrap_or(Number::Lines), totals, rows))
+        let number = options.sort.unwrap_or(Number::Lines);
+        Some(Shares {
+            number,
+            total: number_in(number, totals),
+            largest: largest(number, rows),
+        })
     } else {
         None
     };
@@ -131,14 +126,6 @@ fn totals_lines(
         sums: classes.binary,
     })?;
     Ok(lines)
-}
-
-/// Adds up the rows after the first `top`, which are cut off. Returns `None` if no row is cut off.
-fn others_sums(top: Option<u32>, rows: &[ShownRow<'_>]) -> Result<Option<Sums>, AllocError>
-    ensures { IfOk result (λ others. others ≡ sums_of_some (rest_of top rows.now)) }
-{
-    let (_, rest) = split_at_top(top, rows);
-    sums_of_some(rest)
 }
 
 /// Cuts off all rows after the first `top`. If `top` is `None`, no row is cut off.
@@ -191,7 +178,8 @@ impl<'a> Shown<'a> {
     {
         let mut rows = rows;
         let (files, _) = split_at_top(options.top, listed_files(options.files, &report.files));
-        let others = others_sums(options.top, &rows)?;
+        let (_, rest) = split_at_top(options.top, &rows);
+        let others = sums_of_some(rest)?;
         cut(options.top, &mut rows);
         let format = options.output.sheet_format();
         let shown = Shown {

@@ -29,12 +29,6 @@ fn bytes_of(state: &AttributeState) -> &[u8]
     }
 }
 
-fn compare_state(a: &AttributeState, b: &AttributeState) -> Ordering
-    ensures { result ≡ state_cmp (owned_state a.now) (owned_state b.now) }
-{
-    place(a).cmp(&place(b)).then(bytes_of(a).cmp(&bytes_of(b)))
-}
-
 /// Compares two lists of states one by one. The first difference decides.
 pub(crate) fn compare_states(a: &[AttributeState], b: &[AttributeState]) -> Ordering
     ensures { result ≡ slice_cmp state_cmp (map owned_state a.now) (map owned_state b.now) }
@@ -45,7 +39,7 @@ pub(crate) fn compare_states(a: &[AttributeState], b: &[AttributeState]) -> Orde
         let Some((y, right)) = b.split_first() else {
             return Ordering::Greater;
         };
-        let order = compare_state(x, y);
+        let order = place(x).cmp(&place(y)).then(bytes_of(x).cmp(&bytes_of(y)));
         if order.is_ne() {
             return order;
         }

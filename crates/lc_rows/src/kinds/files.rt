@@ -1,8 +1,7 @@
 //! The lines of a report's sheet that show files: which value a file has in each column.
 
-ghost use Rattle.std.specs.Prelude.{◌≡◌, option_map};
+ghost use Rattle.std.specs.Prelude.{◌≡◌};
 ghost use Rattle.lc_sheet.specs.Values.{value_model};
-ghost use Rattle.lc_rows.specs.Directories.{directory_of};
 ghost use Rattle.lc_rows.specs.Kinds.{file_value, key_value};
 ghost use Rattle.lc_rows.specs.ShownRows.{whole_key};
 
@@ -16,22 +15,12 @@ use lc_walk::{FileLine, extension};
 #[derive(Drop)]
 pub struct Files {}
 
-/// Returns the directory of a file, cut after `depth` names, or none if there is no depth.
-fn directory_to(depth: Option<u32>, path: &[u8]) -> Option<&[u8]>
-    ensures { option_map (λ directory. directory.now) result ≡ option_map (λ n. directory_of n path.entry.now) depth }
-{
-    match depth {
-        None => None,
-        Some(depth) => Some(directory_at(depth, path)),
-    }
-}
-
 /// Returns the value of a file in the column of a key.
 fn key_value(file: &FileLine, depth: Option<u32>, key: Key) -> Value<'_>
     ensures { value_model result ≡ key_value key (whole_key depth file.entry.now) }
 {
     match key {
-        Key::Dir => directory_in(directory_to(depth, &file.path)),
+        Key::Dir => directory_in(depth.map(|depth| directory_at(depth, &file.path))),
         Key::Attribute(place) => state_value(&file.attributes.asked, place),
         Key::Ext => extension_value(extension(name_of(&file.path))),
         Key::Text => text_value(file.text()),

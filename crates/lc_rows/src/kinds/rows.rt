@@ -2,7 +2,6 @@
 
 ghost use Rattle.std.specs.Prelude.{◌≡◌};
 ghost use Rattle.lc_sheet.specs.Values.{value_model};
-ghost use Rattle.lc_sheet.specs.declared.column.Column.TheVariants as columns;
 ghost use Rattle.lc_rows.specs.Kinds.{row_value};
 
 use crate::shown::number_in;
@@ -17,16 +16,6 @@ pub struct Rows<'a> {
     rows: PhantomData<&'a ()>,
 }
 
-fn kept_value<'l>(row: &'l ShownRow<'_>, form: Form, key: Key) -> Value<'l>
-    ensures { value_model result ≡ row_value form row.entry.now (columns.Key key) }
-{
-    if form.by.has(key) {
-        row.key.value(key)
-    } else {
-        Value::Summed
-    }
-}
-
 impl<'a> Lines for Rows<'a> {
     type Line = ShownRow<'a>;
 
@@ -35,7 +24,8 @@ impl<'a> Lines for Rows<'a> {
     #[inline(always)]
     fn value<'l>(line: &'l ShownRow<'a>, form: Form, column: Column) -> Value<'l> {
         match column {
-            Column::Key(key) => kept_value(line, form, key),
+            Column::Key(key) if form.by.has(key) => line.key.value(key),
+            Column::Key(_) => Value::Summed,
             Column::Number(number) => Value::Number(number_in(number, line.sums)),
             Column::Share => share_value(form.shares, line.sums),
             Column::Bar => bar_value(form.shares, line.sums),

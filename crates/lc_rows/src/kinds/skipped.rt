@@ -2,7 +2,7 @@
 
 ghost use Rattle.std.specs.Prelude.{◌≡◌};
 ghost use Rattle.lc_sheet.specs.Values.{value_model};
-ghost use Rattle.lc_rows.specs.Kinds.{attribute_value, entry_value, place_value, rule_file_value, rule_line_value, rule_name};
+ghost use Rattle.lc_rows.specs.Kinds.{place_value, rule_file_value, rule_name};
 ghost use Rattle.lc_rows.specs.Kinds.{skipped_value};
 
 use crate::values::bytes_value;
@@ -49,37 +49,6 @@ fn rule_file_value(line: &SkippedLine) -> Value<'_>
     }
 }
 
-fn rule_line_value(line: &SkippedLine) -> Value<'_>
-    ensures { value_model result ≡ rule_line_value line.entry.now.reason }
-{
-    match line.reason.rule() {
-        Some((_, number)) => Value::Number(u128::from(number)),
-        None => Value::Blank,
-    }
-}
-
-fn attribute_value(line: &SkippedLine) -> Value<'_>
-    ensures { value_model result ≡ attribute_value line.entry.now.reason }
-{
-    match line.reason.attribute() {
-        Some(name) => bytes_value(name),
-        None => Value::Blank,
-    }
-}
-
-/// Makes a value that shows the path of a skipped entry, with a slash at the end if the entry is a directory
-/// other than `.git`.
-fn entry_value(line: &SkippedLine) -> Value<'_>
-    ensures { value_model result ≡ entry_value line.entry.now }
-{
-    Value::Name(Name {
-        front: "",
-        bytes: &line.path,
-        end: skipped_end(line.kind, &line.reason),
-        line: None,
-    })
-}
-
 impl Lines for Skipped {
     type Line = SkippedLine;
 
@@ -92,10 +61,21 @@ impl Lines for Skipped {
             Column::Kind => Value::Word(kind_word(line.kind)),
             Column::Reason => Value::Word(line.reason.word()),
             Column::Place => place_value(line),
-            Column::Entry => entry_value(line),
+            Column::Entry => Value::Name(Name {
+                front: "",
+                bytes: &line.path,
+                end: skipped_end(line.kind, &line.reason),
+                line: None,
+            }),
             Column::File => rule_file_value(line),
-            Column::Line => rule_line_value(line),
-            Column::Attribute => attribute_value(line),
+            Column::Line => match line.reason.rule() {
+                Some((_, number)) => Value::Number(u128::from(number)),
+                None => Value::Blank,
+            },
+            Column::Attribute => match line.reason.attribute() {
+                Some(name) => bytes_value(name),
+                None => Value::Blank,
+            },
             _ => Value::Blank,
         }
     }

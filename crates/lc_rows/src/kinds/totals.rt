@@ -2,10 +2,10 @@
 
 ghost use Rattle.std.specs.Prelude.{◌≡◌};
 ghost use Rattle.lc_sheet.specs.Values.{value_model};
-ghost use Rattle.lc_rows.specs.Kinds.{sums_value, named_in};
+ghost use Rattle.lc_rows.specs.Kinds.{sums_value};
 
 use crate::shown::number_in;
-use crate::values::{bar_value, share_value};
+use crate::values::share_value;
 use lc_sheet::{Column, Form, Key, Lines, Value};
 use lc_walk::Sums;
 use std::marker::Model;
@@ -32,17 +32,6 @@ impl Model for NamedSums {
 #[derive(Drop)]
 pub struct Totals {}
 
-/// Makes the value of a line of sums in the column of a key: the line's name in the column of `first`, and `Summed` in the others.
-fn named_in<'l>(first: Key, key: Key, name: &'static str) -> Value<'l>
-    ensures { value_model result ≡ named_in first key name.now }
-{
-    if first == key {
-        Value::Word(name)
-    } else {
-        Value::Summed
-    }
-}
-
 impl Lines for Totals {
     type Line = NamedSums;
 
@@ -50,7 +39,8 @@ impl Lines for Totals {
 
     fn value<'l>(line: &'l NamedSums, form: Form, column: Column) -> Value<'l> {
         match column {
-            Column::Key(key) => named_in(form.first, key, line.name),
+            Column::Key(key) if form.first == key => Value::Word(line.name),
+            Column::Key(_) => Value::Summed,
             Column::Number(number) => Value::Number(number_in(number, line.sums)),
             Column::Share => share_value(form.shares, line.sums),
             _ => Value::Blank,

@@ -11,8 +11,8 @@ returns c =
     let rows = c.args.rows.items in
     let listed = c.listed_files.ensures ∙ ap (listed_files options.files) c.deref.ensures.value in
     let is_form = c.form_of.ensures ∙ ap (form_of options report.totals) c.deref-3.ensures.value in
-    let others = c.in_ok-others.ensures
-    ∙ ap (λ (rs : List ShownRowModel). sums_of_some (rest_of options.top rs)) c.deref-2.ensures.value in
+    let others = c.in_ok-others.ensures.sums ∙ ap sums_of_some (c.split_at_top-2.ensures.rest
+    ∙ ap (λ (rs : List ShownRowModel). rest_of options.top rs) c.deref-2.ensures.value) in
     let format = c.sheet_format-format.ensures in
     rw format (made options c.args.attributes.now report (view_of options.top rows (listed_files options.files report.files.items))
     c.form_of.result

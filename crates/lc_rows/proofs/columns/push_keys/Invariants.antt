@@ -1,7 +1,7 @@
 use Rattle.std.proofs.Common.{◌≡◌, ◌++◌, flat_map, take}
 use Rattle.lc_sheet.specs.{Keys.report_keys, declared.column.Column.TheVariants.Key}
 use Rattle.lc_rows.specs.SheetColumns.{column_if, shows_key}
-use Rattle.lc_rows.proofs.columns.push_report_keys.Given as goal
+use Rattle.lc_rows.proofs.columns.push_keys.Given as goal
 
 abbrev pub invariant-loop-key : goal.invariant-loop-key
 invariant-loop-key l =
