@@ -1,11 +1,11 @@
 -- Bars: what holds of them, and how long they are.
-use Rattle.std.proofs.Common.{◌≡◌, ◌<◌, ◌≤◌, ◌-◌, ◌+◌, ◌/◌, ◌%◌, ℕ, zero, suc, Bool, true, false, ◌==◌, if◌then◌else◌, List, [], ◌∷◌}
-use Rattle.std.proofs.Common.{◌++◌, length, encode_utf8, refl, sym, ap, ◌∙◌, arith, append-nil, length-append}
-use Rattle.std.specs.Str.{IsUtf8, chars}
-use Rattle.std.proofs.lemmas.Bool.{eqb-true, eqb-false}
-use Rattle.std.proofs.lemmas.Str.{IsUtf8-append, IsUtf8-encode, IsUtf8-nil, chars-append, chars-encodes, chars-nil}
-use lib.Utf8.{encodes, low_scalar, scalar, scalars}
-use Rattle.lc_formats.specs.Shares.{bar, blocks, last_block}
+use Rattle.std.proofs.{lemmas.{Grind.common_steps, Bool.{eqb-true, eqb-false}}}
+use Rattle.std.proofs.{lemmas.Str.{IsUtf8-append, IsUtf8-encode, IsUtf8-nil, chars-append, chars-encodes, chars-nil}, Common.{◌≡◌, ◌<◌}}
+use Rattle.std.proofs.{Common.{◌≤◌, ◌+◌, ◌/◌, ℕ, zero, suc, true, ◌==◌, if◌then◌else◌, List, [], ◌∷◌, ◌++◌, length, encode_utf8, refl, sym}}
+use Rattle.std.proofs.{Common.{ap, ◌∙◌, arith, append-nil, length-append}}
+use Rattle.std.specs.{Str.{IsUtf8, chars}}
+use lib.{Utf8.{encodes, low_scalar, scalar, scalars}}
+use Rattle.lc_formats.specs.{Shares.{bar, blocks, last_block}}
 
 -- what holds of nothing, of joined texts and of each character of a bar holds of the bar
 module _ (P : List ℕ → Type 0) (nothing : P []) (joined : (a b : List ℕ) → P a → P b → P (a ++ b))
@@ -15,11 +15,7 @@ module _ (P : List ℕ → Type 0) (nothing : P []) (joined : (a b : List ℕ) �
   of_blocks (suc n) = joined (encode_utf8 0x2588) (blocks n) (each 0x2588 (omega arith) (omega arith)) (of_blocks n)
 
   pub of_bar : (eighths : ℕ) → P (bar eighths)
-  of_bar eighths = joined (blocks (eighths / 8)) (last_block (eighths % 8)) (of_blocks (eighths / 8)) (at (eighths % 8 == 0))
-    where
-      at : (b : Bool) → P (if b then [] else encode_utf8 (0x2590 - eighths % 8))
-      at true = nothing
-      at false = each (0x2590 - eighths % 8) (omega arith) (omega arith)
+  of_bar eighths = grind (arith, common_steps, of_blocks)
 
 utf8_blocks : (n : ℕ) → IsUtf8 (blocks n)
 utf8_blocks n = of_blocks IsUtf8 IsUtf8-nil IsUtf8-append (λ c low high. IsUtf8-encode c (low_scalar c (omega (arith, high)))) n
@@ -48,27 +44,8 @@ length_blocks (suc n) =
     length_joined (encode_utf8 0x2588) (blocks n) (IsUtf8-encode 0x2588 (low_scalar 0x2588 (omega arith))) ∙ omega arith
 
 length_last : (e : ℕ) → length (chars (last_block e)) ≡ (if e == 0 then 0 else 1)
-length_last e = at (e == 0)
-  where
-    at : (b : Bool) → length (chars (if b then [] else encode_utf8 (0x2590 - e))) ≡ (if b then 0 else 1)
-    at true = ap length chars-nil
-    at false = one_char (0x2590 - e) (omega arith)
+length_last e = grind (arith, common_steps, chars-nil, one_char)
 
 -- as many characters as cells are filled or begun
 pub length_bar : (eighths : ℕ) → length (chars (bar eighths)) ≡ (eighths + 7) / 8
-length_bar eighths =
-    let joined = length_joined (blocks (eighths / 8)) (last_block (eighths % 8)) (utf8_blocks (eighths / 8)) in
-    let front = length_blocks (eighths / 8) in
-    let last = length_last (eighths % 8) in
-    joined ∙ at (eighths % 8 == 0) refl last
-  where
-    at : (b : Bool) → (eighths % 8 == 0) ≡ b → length (chars (last_block (eighths % 8))) ≡ (if b then 0 else 1)
-        → length (chars (blocks (eighths / 8))) + length (chars (last_block (eighths % 8))) ≡ (eighths + 7) / 8
-    at true e last =
-        let none : eighths % 8 ≡ 0 = eqb-true (eighths % 8) 0 e in
-        let front = length_blocks (eighths / 8) in
-        omega arith
-    at false e last =
-        let some : eighths % 8 ≡ 0 → ⊥ = eqb-false (eighths % 8) 0 e in
-        let front = length_blocks (eighths / 8) in
-        omega arith
+length_bar eighths = grind (arith, common_steps, length_joined, utf8_blocks, length_blocks, length_last, eqb-true, eqb-false)

@@ -1,11 +1,10 @@
 -- Texts without the blanks at their ends.
-use Rattle.std.proofs.Common.{◌≡◌, ℕ, zero, suc, ◌/◌, ◌%◌, Bool, true, false, not, ◌==◌, ◌&&◌, if◌then◌else◌, List, [], ◌∷◌, ◌++◌, codes}
-use Rattle.std.proofs.Common.{decimal, refl, sym, ap, ap₂, ◌∙◌, arith, append_assoc}
-use Rattle.std.proofs.lemmas.Bool.{and_parts, and_from, not-true, Decides.nat_tests}
-use Rattle.std.proofs.lemmas.List.Folds.{list_all-append}
-use Rattle.std.specs.{Fmt.{digit_glyph, digits, digits_onto}, Int.abs_diff, List.list_all}
-use Rattle.lc_formats.specs.{Blanks.{char_before, ends_in_blank, without_blanks}, CellWords.{change_word, growth_word, sign, with_commas}}
-use Rattle.lc_formats.specs.{Columns.{has_text, spaces}, Shares.{bar, rounded_parts, share_word}}
+use Rattle.std.proofs.{lemmas.{Grind.common_steps, Bool.{and_parts, and_from, not-true, Decides.nat_tests}, List.Folds.list_all-append}}
+use Rattle.std.proofs.{Common.{◌≡◌, ℕ, zero, suc, ◌/◌, ◌%◌, Bool, true, false, not, ◌==◌, ◌&&◌, if◌then◌else◌, List, [], ◌∷◌, ◌++◌}}
+use Rattle.std.proofs.{Common.{decimal, refl, ap, ap₂, ◌∙◌, arith, append_assoc}}
+use Rattle.std.specs.{Fmt.{digit_glyph, digits, digits_onto}, List.list_all}
+use Rattle.lc_formats.specs.{Blanks.{char_before, ends_in_blank, without_blanks}, CellWords.{change_word, growth_word, with_commas}}
+use Rattle.lc_formats.specs.{Columns.{has_text, spaces}, Shares.{bar, share_word}}
 use Rattle.lc_formats.proofs.{Bars.of_bar, OneLine.{all_weaker, encode_without, is_no_feed, is_numeral, is_one_line, numerals}}
 
 -- whether there is nothing
@@ -27,12 +26,10 @@ without_none (c ∷ []) e = ap (λ b. if b then [] else c ∷ []) e
 without_none (c ∷ d ∷ ds) e = ap (char_before c) (without_none (d ∷ ds) e)
 
 ends_alone : (b : Bool) (c : ℕ) → (c == 32) ≡ b → ends_in_blank (if b then [] else c ∷ []) ≡ false
-ends_alone true c h = refl
-ends_alone false c h = h
+ends_alone b c h = grind (arith, common_steps)
 
 ends_before : (c : ℕ) (rest : List ℕ) → ends_in_blank rest ≡ false → ends_in_blank (char_before c rest) ≡ false
-ends_before c [] e = ends_alone (c == 32) c refl
-ends_before c (d ∷ ds) e = e
+ends_before c rest e = grind (arith, common_steps, ends_alone)
 
 -- without its blanks a text ends in none
 pub ends_without : (t : List ℕ) → ends_in_blank (without_blanks t) ≡ false
@@ -60,12 +57,10 @@ some_after [] y ys = refl
 some_after (x ∷ xs) y ys = refl
 
 one_line_alone : (b : Bool) (c : ℕ) → is_no_feed c ≡ true → is_one_line (if b then [] else c ∷ []) ≡ true
-one_line_alone true c e = refl
-one_line_alone false c e = and_from _ _ e refl
+one_line_alone b c e = grind (arith, common_steps, and_from)
 
 one_line_before : (c : ℕ) (rest : List ℕ) → is_no_feed c ≡ true → is_one_line rest ≡ true → is_one_line (char_before c rest) ≡ true
-one_line_before c [] e all = one_line_alone (c == 32) c e
-one_line_before c (d ∷ ds) e all = and_from _ _ e all
+one_line_before c rest e all = grind (arith, common_steps, one_line_alone, and_from)
 
 -- it is on one line still
 pub one_line_without : (t : List ℕ) → is_one_line t ≡ true → is_one_line (without_blanks t) ≡ true
@@ -96,8 +91,7 @@ ends_number n = ends_none (with_commas (decimal n))
     (all_weaker is_numeral no_blank no_blank_digit (with_commas (decimal n)) (numerals n))
 
 text_chosen : (b : Bool) (d : ℕ) (ds ts : List ℕ) → has_text ts ≡ true → has_text (if b then d ∷ ds else ts) ≡ true
-text_chosen true d ds ts e = refl
-text_chosen false d ds ts e = e
+text_chosen b d ds ts e = grind (arith, common_steps)
 
 text_onto : (k n d : ℕ) (ds : List ℕ) → has_text (digits_onto k 10 false n (d ∷ ds)) ≡ true
 text_onto zero n d ds = refl
@@ -107,46 +101,29 @@ text_onto (suc k) n d ds =
 
 text_decimal : (n : ℕ) → has_text (decimal n) ≡ true
 unfolding digits
-text_decimal n =
-    let x = digit_glyph false (n % 10) in
-    text_chosen (n / 10 == 0) x [] (digits_onto 63 10 false (n / 10) (x ∷ [])) (text_onto 63 (n / 10) x [])
+text_decimal n = grind (arith, common_steps, text_chosen, text_onto)
 
 text_commas : (ds : List ℕ) → has_text ds ≡ true → has_text (with_commas ds) ≡ true
-text_commas [] e = e
-text_commas (d ∷ ds) e = refl
+text_commas ds e = grind (arith, common_steps)
 
 -- a number has a text
 pub shown_number : (n : ℕ) → has_text (with_commas (decimal n)) ≡ true
 shown_number n = text_commas (decimal n) (text_decimal n)
 
 some_text : (t : List ℕ) → has_text t ≡ true → t ≡ [] → ⊥
-some_text [] is none = absurd (cc)
-some_text (c ∷ cs) is none = absurd (cc)
+some_text t is none = grind (arith, common_steps)
 
 -- a change ends with its number
 pub ends_change : (old new : ℕ) → ends_in_blank (change_word old new) ≡ false
-ends_change old new =
-    let by = abs_diff old new in
-    ends-append (sign old new) (with_commas (decimal by)) (some_text (with_commas (decimal by)) (shown_number by)) ∙ ends_number by
+ends_change old new = grind (arith, common_steps, ends-append, some_text, shown_number, ends_number)
 
 -- a share ends with its sign
 pub ends_share : (tenths : ℕ) → ends_in_blank (share_word tenths) ≡ false
-ends_share tenths =
-    ends-append (decimal (tenths / 10) ++ codes "." ++ decimal (tenths % 10)) (codes "%") (λ e. absurd (cc))
+ends_share tenths = grind (arith, common_steps, ends-append)
 
 -- and so does a change in per cent, if it has one
 pub ends_growth : (old new : ℕ) → ends_in_blank (growth_word old new) ≡ false
-ends_growth old new = at (old == 0) (new == 0)
-  where
-    at : (b c : Bool) → ends_in_blank (if b then if c then [] else codes "new" else sign old new
-        ++ share_word (rounded_parts 1000 (abs_diff old new) old)) ≡ false
-    at true true = refl
-    at true false = refl
-    at false c =
-        let tenths = rounded_parts 1000 (abs_diff old new) old in
-        let digits = decimal (tenths / 10) ++ codes "." ++ decimal (tenths % 10) in
-        ap ends_in_blank (sym (append_assoc (sign old new) digits (codes "%")))
-        ∙ ends-append (sign old new ++ digits) (codes "%") (λ e. absurd (cc))
+ends_growth old new = grind (arith, common_steps, append_assoc, ends-append)
 
 -- a bar ends in no blank
 pub ends_bar : (eighths : ℕ) → ends_in_blank (bar eighths) ≡ false

@@ -1,5 +1,5 @@
 -- Records of lines, as the code writes them.
-use Rattle.std.proofs.{Common.{◌≡◌, ℕ, ◌≤◌, List, ◌++◌, length, map, take, sym, ap, ◌∙◌, take_all}, lemmas.List.Folds.flat_map-map}
+use Rattle.std.proofs.{Common.{arith, ◌≡◌, ℕ, ◌≤◌, List, ◌++◌, length, map, take}, lemmas.{Grind.common_steps, List.Folds.flat_map-map}}
 use Rattle.std.specs.List.{flat_map}
 use Rattle.lc_sheet.specs.Values.{ValueModel}
 use Rattle.lc_formats.specs.{Csv.field_of, CsvText.record_text}
@@ -8,7 +8,4 @@ use Rattle.lc_formats.specs.{Csv.field_of, CsvText.record_text}
 pub records_written : {X : Type 0} (values : X → List ValueModel) (xs : List X) (i : ℕ) (initial all : List ℕ) → length xs ≤ i
     → all ≡ initial ++ flat_map (λ x. record_text (map field_of (values x))) (take i xs)
     → all ≡ initial ++ flat_map record_text (map (map field_of) (map values xs))
-records_written values xs i initial all end so_far =
-    so_far ∙ ap (λ l. initial ++ flat_map (λ x. record_text (map field_of (values x))) l) (take_all i xs end)
-    ∙ ap (λ l. initial ++ l)
-    (sym (flat_map-map record_text (map field_of) (map values xs) ∙ flat_map-map (λ v. record_text (map field_of v)) values xs))
+records_written values xs i initial all end so_far = grind (arith, common_steps, flat_map-map)

@@ -1,5 +1,6 @@
 -- What `decimal` writes is a number of JSON, also past 64 bits.
-use Rattle.std.proofs.Common.{◌≡◌, ℕ, zero, suc, ◌+◌, ◌%◌, ◌^◌, ◌<◌, ◌≤◌, false, cond, ◌==◌, List, [], ◌∷◌, length, drop, get_or, Some}
+use Rattle.std.proofs.lemmas.Grind.{common_steps}
+use Rattle.std.proofs.Common.{◌≡◌, ℕ, suc, ◌+◌, ◌%◌, ◌^◌, ◌<◌, ◌≤◌, false, cond, ◌==◌, List, [], ◌∷◌, length, drop, get_or, Some}
 use Rattle.std.proofs.{Common.{option_and_then, decimal, refl, ap, ◌∙◌, arith, length-append}, lemmas.Bool.{ne_eqb, le-leb, and_from}}
 use Rattle.std.proofs.lemmas.{List.drop_all, Fmt.{decimal_is_IsNumeral_wide, decimal_digit, decimal_by_steps_wide}, Str.Parse.digit_at}
 use lib.ListN.{get_or-append}
@@ -16,11 +17,7 @@ all_digits (d ∷ ds) h =
 
 whole_digits : (ds : List ℕ) → 48 < get_or ds 0 0 → prefix_len is_ascii_digit ds ≡ length ds
     → (after_whole ds ≡ Some []) × ((head ds == 45) ≡ false)
-whole_digits [] first all = absurd (omega arith)
-whole_digits (d ∷ ds) first all = (
-  rw (ne_eqb d 48 (λ e. omega arith), all, ne_eqb (suc (length ds)) 0 (λ e. omega arith)) (ap Some (drop_all (length ds) ds (omega arith))),
-  ne_eqb d 45 (λ e. omega arith),
-)
+whole_digits ds first all = grind (arith, common_steps, ne_eqb, drop_all)
 
 -- the first digit of a number above 0 is no zero
 first_digit : (n : ℕ) → 0 < n → n < 10 ^ 64 → 48 < get_or (decimal n) 0 0
@@ -32,10 +29,8 @@ first_digit n some small =
     )) n small).1 some
 
 whole_decimal : (n : ℕ) → n < 10 ^ 64 → (after_whole (decimal n) ≡ Some []) × ((head (decimal n) == 45) ≡ false)
-whole_decimal zero h = let e = decimal_digit 0 (omega arith) in (ap after_whole e, ap (λ l. head l == 45) e)
-whole_decimal (suc n) h =
-    whole_digits (decimal (suc n)) (first_digit (suc n) (omega arith) h)
-    (all_digits _ (λ i l. digit_at _ i (decimal_is_IsNumeral_wide (suc n) h).0.1 l))
+whole_decimal n h =
+    grind (arith, common_steps, decimal_digit, whole_digits, first_digit, all_digits, digit_at, decimal_is_IsNumeral_wide)
 
 -- a decimal that is not too long is a number of JSON
 pub IsNumber-decimal : (n : ℕ) → n < 10 ^ 64 → IsNumber (decimal n)

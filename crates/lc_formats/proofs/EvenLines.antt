@@ -1,13 +1,13 @@
 -- Lines of cells in columns that fit them have one width, up to an open end.
-use Rattle.std.proofs.Common.{◌≡◌, ℕ, suc, ◌+◌, ◌-◌, ◌≤◌, Bool, true, false, List, [], ◌∷◌, ◌++◌, length, map, codes, slice_index, refl}
-use Rattle.std.proofs.Common.{sym, ap, ap₂, ◌∙◌, arith, append_assoc, append-nil}
-use Rattle.std.proofs.lemmas.{List.{Elements.{All-cons, All-head, All-nil, All-tail}, length-map}, Str.{IsUtf8-append, IsUtf8-nil}}
+use Rattle.std.proofs.{lemmas.{Grind.common_steps, List.{Elements.{All-cons, All-head, All-nil, All-tail}, length-map}}}
+use Rattle.std.proofs.{lemmas.Str.{IsUtf8-append, IsUtf8-nil}, Common.{◌≡◌, ℕ, suc, ◌+◌, ◌-◌, ◌≤◌, Bool, true, false, List, [], ◌∷◌, ◌++◌}}
+use Rattle.std.proofs.{Common.{length, map, codes, refl, sym, ◌∙◌, arith, append_assoc, append-nil}}
 use Rattle.std.specs.{List.{All, AllZip}, Str.IsUtf8}
 use Rattle.lc_formats.specs.{Blanks.{padded_from, padded_line}, Columns.{CellModel, cell_widths, gap, spaces, text_at, width_at, width_of}}
-use Rattle.lc_formats.specs.Columns.{wider, widened, widths_of}
-use Rattle.lc_sheet.specs.declared.column.Side.{Side, TheVariants.{Left, Right, End}}
+use Rattle.lc_formats.specs.{Columns.{wider, widened, widths_of}}
+use Rattle.lc_sheet.specs.{declared.column.Side.{Side, TheVariants.{Left, Right, End}}}
 use Rattle.lc_formats.proofs.{OneLine.{is_one_line, one_line-append}, Spacing.{width_of-space, width_of-after, width_of-before}}
-use Rattle.lc_formats.proofs.Spacing.{width_of-next, width_of-nil, utf8_spaces, one_line_spaces}
+use Rattle.lc_formats.proofs.{Spacing.{width_of-next, width_of-nil, utf8_spaces, one_line_spaces}}
 
 abbrev pub sides : List CellModel → List Side
 sides cells = map (λ c. c.side) cells
@@ -70,9 +70,7 @@ span (s ∷ ss) (w ∷ ws) = side_width s w + (gap_width ss + span ss ws)
 
 later_columns : (i j w : ℕ) (ws : List ℕ) (cells : List CellModel) → j ≡ suc i → padded_from j (w ∷ ws) cells ≡ padded_from i ws cells
 later_columns i j w ws [] next = refl
-later_columns i j w ws (c ∷ cs) next =
-    ap₂ (λ v l. text_at c.side v c.text ++ (gap cs ++ l)) (ap (slice_index (w ∷ ws)) next)
-    (later_columns (i + 1) (j + 1) w ws cs (omega arith))
+later_columns i j w ws (c ∷ cs) next = grind (arith, common_steps, later_columns (i + 1) (j + 1) w ws cs (omega arith))
 
 parted : (s : Side) (w : ℕ) (t : List ℕ) (ws : List ℕ) (cs : List CellModel) (rest : List ℕ) → is_layout (s ∷ sides cs) ≡ true
     → rest ≡ front ws cs ++ (end_of cs ++ codes "\n") → Fit ws cs
@@ -84,10 +82,7 @@ parted End w t (v ∷ vs) [] rest layout is fits = absurd fits
 parted End w t ws (c ∷ cs) rest layout is fits = absurd (cc)
 
 layout_rest : (s : Side) (ss : List Side) → is_layout (s ∷ ss) ≡ true → is_layout ss ≡ true
-layout_rest Left ss e = e
-layout_rest Right ss e = e
-layout_rest End [] e = refl
-layout_rest End (s ∷ ss) e = absurd (cc)
+layout_rest s ss e = grind (arith, common_steps)
 
 -- a padded line is what is in columns, its open end and a line feed
 pub line_parted : (ws : List ℕ) (cells : List CellModel) → Fit ws cells → is_layout (sides cells) ≡ true
@@ -96,15 +91,12 @@ line_parted [] [] fits layout = refl
 line_parted [] (c ∷ cs) fits layout = absurd fits
 line_parted (w ∷ ws) [] fits layout = refl
 line_parted (w ∷ ws) (c ∷ cs) fits layout =
-    parted c.side w c.text ws cs (padded_from 1 (w ∷ ws) cs) layout
-    (later_columns 0 1 w ws cs refl ∙ line_parted ws cs fits.1 (layout_rest c.side (sides cs) layout)) fits.1
+    grind (arith, common_steps, parted, later_columns, layout_rest, line_parted ws cs fits.1 (layout_rest c.side (sides cs) layout))
 
 -- ---- how wide what is in columns is
 
 width_at_side : (s : Side) (w : ℕ) (t : List ℕ) → IsSound s t → width_at s t ≤ w → width_of (front_at s w t) ≡ side_width s w
-width_at_side Left w t sound fits = width_of-after t (w - width_of t) sound.1 ∙ omega (arith, fits)
-width_at_side Right w t sound fits = width_of-before (w - width_of t) t ∙ omega (arith, fits)
-width_at_side End w t sound fits = width_of-nil
+width_at_side s w t sound fits = grind (arith, common_steps, width_of-after, width_of-before, width_of-nil)
 
 utf8_front_at : (s : Side) (w : ℕ) (t : List ℕ) → IsSound s t → IsUtf8 (front_at s w t)
 utf8_front_at Left w t sound = IsUtf8-append t (spaces (w - width_of t)) sound.1 (utf8_spaces (w - width_of t))
@@ -118,40 +110,31 @@ width_of-front [] [] fits sound = width_of-nil
 width_of-front [] (c ∷ cs) fits sound = absurd fits
 width_of-front (w ∷ ws) [] fits sound = width_of-nil
 width_of-front (w ∷ []) (c ∷ []) fits sound =
-    ap width_of (append-nil (front_at c.side w c.text)) ∙ width_at_side c.side w c.text sound.0 fits.0 ∙ omega arith
+    grind (arith, common_steps, width_of-nil, append-nil, width_at_side, width_of-space, utf8_front_at, width_of-next)
 width_of-front (w ∷ v ∷ vs) (c ∷ []) fits sound = absurd fits.1
 width_of-front (w ∷ ws) (c ∷ d ∷ ds) fits sound =
-    let rest = front ws (d ∷ ds) in
-    width_of-space (front_at c.side w c.text) (32 ∷ rest) (utf8_front_at c.side w c.text sound.0)
-    ∙ omega (arith, width_of-next rest, width_of-front ws (d ∷ ds) fits.1 sound.1, width_at_side c.side w c.text sound.0 fits.0)
+    grind (arith, common_steps, width_at_side, width_of-space, utf8_front_at, width_of-next, width_of-front ws (d ∷ ds) fits.1 sound.1)
 
 one_line_front_at : (s : Side) (w : ℕ) (t : List ℕ) → IsSound s t → is_one_line (front_at s w t) ≡ true
-one_line_front_at Left w t sound = one_line-append t (spaces (w - width_of t)) sound.0 (one_line_spaces (w - width_of t))
-one_line_front_at Right w t sound = one_line-append (spaces (w - width_of t)) t (one_line_spaces (w - width_of t)) sound.0
-one_line_front_at End w t sound = refl
+one_line_front_at s w t sound = grind (arith, common_steps, one_line-append, one_line_spaces)
 
 one_line_gap : (cells : List CellModel) → is_one_line (gap cells) ≡ true
-one_line_gap [] = refl
-one_line_gap (c ∷ cs) = refl
+one_line_gap cells = grind (arith, common_steps)
 
 -- they are on one line
 pub one_line_front : (ws : List ℕ) (cells : List CellModel) → AreSound cells → is_one_line (front ws cells) ≡ true
 one_line_front [] cells sound = refl
 one_line_front (w ∷ ws) [] sound = refl
 one_line_front (w ∷ ws) (c ∷ cs) sound =
-    one_line-append (front_at c.side w c.text) (gap cs ++ front ws cs) (one_line_front_at c.side w c.text sound.0)
-    (one_line-append (gap cs) (front ws cs) (one_line_gap cs) (one_line_front ws cs sound.1))
+    grind (arith, common_steps, one_line-append, one_line_front_at, one_line_gap, one_line_front ws cs sound.1)
 
 one_line_end_at : (s : Side) (t : List ℕ) → IsSound s t → is_one_line (end_at s t) ≡ true
-one_line_end_at Left t sound = refl
-one_line_end_at Right t sound = refl
-one_line_end_at End t sound = sound
+one_line_end_at s t sound = grind (arith, common_steps)
 
 -- and so does the last cell
 pub one_line_end : (cells : List CellModel) → AreSound cells → is_one_line (end_of cells) ≡ true
 one_line_end [] sound = refl
-one_line_end (c ∷ cs) sound =
-    one_line-append (end_at c.side c.text) (end_of cs) (one_line_end_at c.side c.text sound.0) (one_line_end cs sound.1)
+one_line_end (c ∷ cs) sound = grind (arith, common_steps, one_line-append, one_line_end_at, one_line_end cs sound.1)
 
 -- ---- the widths of columns fit each line
 

@@ -1,4 +1,5 @@
 -- The lines of a part of a table: lines of cells that are alike, and lines of hyphens.
+use Rattle.std.proofs.lemmas.Grind.{common_steps}
 use Rattle.std.proofs.Common.{◌≡◌, ◌≤◌, ℕ, ◌-◌, ◌==◌, Bool, true, false, if◌then◌else◌, List, [], ◌∷◌, ◌++◌, length, map, take, codes}
 use Rattle.std.proofs.Common.{replicate, refl, sym, ap, ◌∙◌, arith}
 use Rattle.std.proofs.{Common.{append_assoc, append-nil, ap₂, subst, suc, zero}, lemmas.List.{length-map, map-append}}
@@ -25,16 +26,10 @@ IsLike ss l = (sides l ≡ ss) × AreSound l
 abbrev pub shown : List ℕ → List CellModel → List ℕ
 shown ws l = front ws l ++ end_of l
 
-one_line_shown : (ws : List ℕ) (l : List CellModel) → AreSound l → is_one_line (shown ws l) ≡ true
-one_line_shown ws l sound = one_line-append (front ws l) (end_of l) (one_line_front ws l sound) (one_line_end l sound)
-
 lined_line : (ws : List ℕ) (l : List CellModel) → Fit ws l → is_layout (sides l) ≡ true → AreSound l
     → IsLined (shown ws l ∷ []) (padded_line ws l)
-lined_line ws l fits layout sound =
-    let one = lined-one (shown ws l) (one_line_shown ws l sound) in record {
-      text_is = line_parted ws l fits layout ∙ sym (append_assoc (front ws l) (end_of l) (codes "\n")) ∙ one.text_is;
-      each = one.each;
-    }
+lined_line ws l h1 h2 h3 =
+    grind (arith, common_steps, lined-one, one_line-append, front, end_of, one_line_front, one_line_end, line_parted, append_assoc)
 
 -- the padded lines of lines that are alike, in columns that fit them
 lined_lines : (ss : List Side) (ws : List ℕ) (ls : List (List CellModel)) → is_layout ss ≡ true → All (Fit ws) ls → All (IsLike ss) ls
@@ -67,14 +62,10 @@ layout_from (Right ∷ ss) e = layout_from ss e
 layout_from (End ∷ ss) e = absurd (cc)
 
 column_width : (s : Side) (ss : List Side) (w : ℕ) → has_no_end (s ∷ ss) ≡ true → (side_width s w ≡ w) × (has_no_end ss ≡ true)
-column_width Left ss w e = (refl, e)
-column_width Right ss w e = (refl, e)
-column_width End ss w e = absurd (cc)
+column_width s ss w h1 = grind (arith, common_steps)
 
 no_end_at : (s : Side) (t rest : List ℕ) (ss : List Side) → has_no_end (s ∷ ss) ≡ true → rest ≡ [] → end_at s t ++ rest ≡ []
-no_end_at Left t rest ss closed none = none
-no_end_at Right t rest ss closed none = none
-no_end_at End t rest ss closed none = absurd (cc)
+no_end_at s t rest ss h1 h2 = grind (arith, common_steps)
 
 no_end : (cells : List CellModel) → has_no_end (sides cells) ≡ true → end_of cells ≡ []
 no_end [] closed = refl
@@ -86,12 +77,20 @@ padded_is ws l closed = ap (λ e. front ws l ++ e) (no_end l closed) ∙ append-
 
 printed_line : (ws : List ℕ) (l : List CellModel) → Fit ws l → has_no_end (sides l) ≡ true → AreSound l → EndsBare l
     → IsLined (without_blanks (shown ws l) ∷ []) (line_in ws l)
-printed_line ws l fits closed sound bare =
-    let one = lined-one (without_blanks (shown ws l)) (one_line_without (shown ws l) (one_line_shown ws l sound)) in record {
-      text_is = line_printed ws l fits closed bare
-          ∙ ap (λ (t : List ℕ). without_blanks t ++ codes "\n") (sym (padded_is ws l closed)) ∙ one.text_is;
-      each = one.each;
-    }
+printed_line ws l h1 h2 h3 h4 =
+    grind (
+      arith,
+      common_steps,
+      lined-one,
+      one_line_without,
+      one_line-append,
+      front,
+      end_of,
+      one_line_front,
+      one_line_end,
+      line_printed,
+      padded_is,
+    )
 
 -- lines are as wide as their columns and the gaps between these
 span_is : (ss : List Side) (ws : List ℕ) → has_no_end ss ≡ true → length ws ≡ length ss → span ss ws ≡ line_width ws
@@ -106,9 +105,7 @@ span_is (s ∷ t ∷ ts) (w ∷ v ∷ vs) closed long =
     let rest = span_is (t ∷ ts) (v ∷ vs) column.1 (omega arith) in omega (arith, column.0, rest)
 
 gap_fewer : (n : ℕ) (ws : List ℕ) → gap_width (take n ws) ≤ gap_width ws
-gap_fewer zero ws = omega arith
-gap_fewer (suc n) [] = omega arith
-gap_fewer (suc n) (w ∷ ws) = omega arith
+gap_fewer n ws = grind (arith, common_steps)
 
 -- the first columns are no wider than all of them
 width_fewer : (n : ℕ) (ws : List ℕ) → line_width (take n ws) ≤ line_width ws
@@ -134,12 +131,7 @@ pub record IsEven (n : ℕ) (lines : List (List ℕ)) (padded text : List ℕ) :
 -- one after the other
 pub even-append : (n : ℕ) (xs ys : List (List ℕ)) (a b s t : List ℕ) → IsEven n xs a s → IsEven n ys b t
     → IsEven n (xs ++ ys) (a ++ b) (s ++ t)
-even-append n xs ys a b s t first second = record {
-  with_blanks = lined-append xs ys a b first.with_blanks second.with_blanks;
-  printed = subst (λ (ls : List (List ℕ)). IsLined ls (s ++ t)) (sym (map-append without_blanks xs ys))
-      (lined-append (map without_blanks xs) (map without_blanks ys) s t first.printed second.printed);
-  wide = All-append (λ line. width_of line ≡ n) xs ys first.wide second.wide;
-}
+even-append n xs ys a b s t h1 h2 = grind (arith, common_steps, lined-append, map-append)
 
 -- a line whose cells are at these sides, and which shows no blank at its end
 abbrev pub IsRow : List Side → List CellModel → Type 0
@@ -215,11 +207,7 @@ clean-append a b first second = record {
 }
 
 pub clean_nothing : IsClean []
-clean_nothing = record {
-  lines = [];
-  lined = record { text_is = refl; each = All-nil (λ l. is_one_line l ≡ true) };
-  ends = All-nil (λ line. ends_in_blank line ≡ false);
-}
+clean_nothing = grind (arith, common_steps, is_one_line)
 
 -- an empty line
 pub clean_feed : IsClean (codes "\n")
@@ -231,8 +219,7 @@ clean_feed = record {
 
 none_ends : (lines : List (List ℕ)) → All (λ line. ends_in_blank line ≡ false) (map without_blanks lines)
 none_ends [] = All-nil (λ line. ends_in_blank line ≡ false)
-none_ends (l ∷ ls) =
-    All-cons (λ line. ends_in_blank line ≡ false) (without_blanks l) (map without_blanks ls) (ends_without l) (none_ends ls)
+none_ends (l ∷ ls) = grind (arith, common_steps, ends_without, none_ends ls)
 
 -- lines without the blanks at their ends
 pub clean_even : (n : ℕ) (lines : List (List ℕ)) (padded text : List ℕ) → IsEven n lines padded text → IsClean text

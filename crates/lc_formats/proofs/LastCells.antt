@@ -1,6 +1,6 @@
 -- The last cells of a line, one after the other.
-use Rattle.std.proofs.Common.{◌≡◌, ℕ, ◌+◌, ◌-◌, ◌<◌, ◌≤◌, Bool, true, false, if◌then◌else◌, List, [], ◌∷◌, ◌++◌, length, take, get_or}
-use Rattle.std.proofs.{Common.{sym, ap, ◌∙◌, arith}, lemmas.List.{take_more, map-append}}
+use Rattle.std.proofs.{lemmas.{Grind.common_steps, List.{take_more, map-append}}, Common.{◌≡◌, ℕ, ◌+◌, ◌-◌, ◌<◌, ◌≤◌, Bool, true, false}}
+use Rattle.std.proofs.{Common.{if◌then◌else◌, List, [], ◌∷◌, ◌++◌, length, take, get_or, ap, ◌∙◌, arith}}
 use Rattle.lc_formats.specs.{Cells.{cell_model, cells_of}, Columns.{CellModel, before_shown, is_shown, shown_cells}}
 use Rattle.lc_formats.specs.declared.cells.Cell.{Cell}
 
@@ -21,27 +21,17 @@ taken cells n d h = ap cells_of (take_more cells n d h) ∙ map-append cell_mode
 
 taken_before : (cells : List Cell) (count : ℕ) (d : Cell) → 0 < count → count ≤ length cells
     → cells_of (take count cells) ≡ cells_of (take (count - 1) cells) ++ cell_model (get_or cells (count - 1) d) ∷ []
-taken_before cells count d some fits =
-    let last : count ≡ count - 1 + 1 = omega arith in
-    ap (λ (n : ℕ). cells_of (take n cells)) last ∙ taken cells (count - 1) d (omega arith)
+taken_before cells count d some fits = grind (arith, common_steps, taken)
 
 -- the last of so many cells is shown
 pub shown_there : (cells : List Cell) (count : ℕ) (d : Cell) (b : Bool) → 0 < count → count ≤ length cells
     → b ≡ is_shown (cell_model (get_or cells (count - 1) d)).side (cell_model (get_or cells (count - 1) d)).text → b ≡ true
     → shown_cells (cells_of (take count cells)) ≡ shown_cells (cells_of cells) → cells_of (take count cells) ≡ shown_cells (cells_of cells)
-shown_there cells count d b some fits own is so_far =
-    let c = cell_model (get_or cells (count - 1) d) in
-    let whole = taken_before cells count d some fits in
-    whole ∙ sym (shown-last (cells_of (take (count - 1) cells)) c (sym own ∙ is)) ∙ ap shown_cells (sym whole) ∙ so_far
+shown_there cells count d b some fits own is so_far = grind (arith, common_steps, taken_before, shown-last)
 
 -- or it is not
 pub hidden_there : (cells : List Cell) (count : ℕ) (d : Cell) (b : Bool) → 0 < count → count ≤ length cells
     → b ≡ is_shown (cell_model (get_or cells (count - 1) d)).side (cell_model (get_or cells (count - 1) d)).text → b ≡ false
     → shown_cells (cells_of (take count cells)) ≡ shown_cells (cells_of cells)
     → (count - 1 ≤ length cells) × (shown_cells (cells_of (take (count - 1) cells)) ≡ shown_cells (cells_of cells))
-hidden_there cells count d b some fits own is so_far =
-    let c = cell_model (get_or cells (count - 1) d) in
-    let whole = taken_before cells count d some fits in (
-      omega arith,
-      sym (hidden-last (cells_of (take (count - 1) cells)) c (sym own ∙ is)) ∙ ap shown_cells (sym whole) ∙ so_far,
-    )
+hidden_there cells count d b some fits own is so_far = grind (arith, common_steps, taken_before, hidden-last)

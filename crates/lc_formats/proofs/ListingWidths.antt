@@ -1,28 +1,21 @@
 -- How wide the lines of what is listed are.
-use Rattle.std.proofs.{Common.{◌≡◌, ℕ, true, List, [], ◌∷◌, ◌++◌, map, codes, refl, sym, ap₂, append-nil, subst}}
-use Rattle.std.proofs.lemmas.List.Elements.{All-cons, All-head, All-map, All-nil, All-tail, All-weaker}
+use Rattle.std.proofs.{Common.{arith, ◌≡◌, ℕ, true, List, [], ◌∷◌, ◌++◌, map, refl, sym, ap₂, append-nil, subst}, lemmas.Grind.common_steps}
+use Rattle.std.proofs.{lemmas.List.Elements.{All-cons, All-head, All-map, All-nil, All-tail, All-weaker}}
 use Rattle.std.specs.List.{All}
-use Rattle.lc_sheet.specs.{ColumnWords.side_of, Sheets.SectionModel, Values.ValueModel, declared.column.Column.Column}
-use Rattle.lc_sheet.specs.declared.column.Side.{Side, TheVariants.{Left, Right, End}}
+use Rattle.lc_sheet.specs.{ColumnWords.side_of, Sheets.SectionModel, Values.ValueModel, declared.column.{Column.Column, Side.Side}}
 use Rattle.lc_formats.specs.{Cells.{heading_cells, heading_value, line_cells, section_cells, shown_text}, Layouts.is_open}
-use Rattle.lc_formats.specs.{Readable.{AreReadable, IsListed}, Shares.full_bar, TableText.section_listing}
-use Rattle.lc_formats.specs.WidthLaws.{HasEnd, HasEnds, IsAlignedListing, ListingWidthLaw, last_heading, last_text}
+use Rattle.lc_formats.specs.{Readable.{AreReadable, IsListed}, Shares.full_bar, TableText.section_listing, WidthLaws.{HasEnd, HasEnds}}
+use Rattle.lc_formats.specs.{WidthLaws.{IsAlignedListing, ListingWidthLaw, last_heading, last_text}}
 use Rattle.lc_formats.proofs.{EvenLines.{end_at, end_of}, EvenParts.{IsClean, IsLike, listing_aligned, listing_clean}}
-use Rattle.lc_formats.proofs.SoundValues.{like_headings, like_line, shown_clear}
-use Rattle.lc_sheet.specs.declared.column.Column.TheVariants as column
-use Rattle.lc_sheet.specs.declared.column.Compared.TheVariants as compared
+use Rattle.lc_formats.proofs.{SoundValues.{like_headings, like_line, shown_clear}}
 
 -- ---- the last text of a line is its open end
 
 end_last : (s : Side) (t : List ℕ) → is_open (s ∷ []) ≡ true → end_at s t ++ [] ≡ t
-end_last Left t e = absurd (cc)
-end_last Right t e = absurd (cc)
-end_last End t e = append-nil t
+end_last s t e = grind (arith, common_steps, append-nil)
 
 end_before : (s u : Side) (ss : List Side) (t : List ℕ) → is_open (s ∷ u ∷ ss) ≡ true → (end_at s t ≡ []) × (is_open (u ∷ ss) ≡ true)
-end_before Left u ss t e = (refl, e)
-end_before Right u ss t e = (refl, e)
-end_before End u ss t e = absurd (cc)
+end_before s u ss t e = grind (arith, common_steps)
 
 end_headings : (names : List (List ℕ)) (columns : List Column) → is_open (map side_of columns) ≡ true
     → end_of (heading_cells names columns) ≡ last_heading names columns
@@ -73,14 +66,7 @@ listing_law s is =
 -- ---- and their ends
 
 heading_end : (names : List (List ℕ)) (c : Column) → is_open (side_of c ∷ []) ≡ true → HasEnd (shown_text (heading_value names c))
-heading_end names column.Path e = subst HasEnd (sym (shown_clear (codes "file") refl refl)) ((λ e. absurd (cc)), refl)
-heading_end names column.Entry e = subst HasEnd (sym (shown_clear (codes "path") refl refl)) ((λ e. absurd (cc)), refl)
-heading_end names column.Site e = subst HasEnd (sym (shown_clear (codes "path") refl refl)) ((λ e. absurd (cc)), refl)
-heading_end names (column.Old (compared.Key k)) e = absurd (cc)
-heading_end names (column.Old (compared.Number n)) e = absurd (cc)
-heading_end names (column.New (compared.Key k)) e = absurd (cc)
-heading_end names (column.New (compared.Number n)) e = absurd (cc)
-heading_end names other e = absurd (cc)
+heading_end names c e = grind (arith, common_steps, shown_clear)
 
 last_heading_end : (names : List (List ℕ)) (columns : List Column) → is_open (map side_of columns) ≡ true
     → HasEnd (last_heading names columns)

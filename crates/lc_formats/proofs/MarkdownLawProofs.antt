@@ -1,11 +1,11 @@
 -- What is true of texts as Markdown.
-use Rattle.std.proofs.Common.{◌≡◌, ◌==◌, ◌||◌, ◌&&◌, ℕ, nat_eq, Bool, true, false, if◌then◌else◌, List, [], ◌∷◌, ◌++◌, codes, refl, sym}
-use Rattle.std.proofs.{Common.{ap, ◌∙◌, flat_map}, lemmas.Bool.{and_parts, eqb-true, ne_eqb, or_parts}}
-use Rattle.std.specs.List.{list_any, starts_with}
+use Rattle.std.proofs.{Common.{arith, ◌≡◌, ◌==◌, ◌||◌, ◌&&◌, ℕ, nat_eq, Bool, true, false, if◌then◌else◌, List, [], ◌∷◌, ◌++◌, codes, refl}}
+use Rattle.std.proofs.{Common.{ap, ◌∙◌, flat_map}, lemmas.{Grind.common_steps, Bool.{and_parts, eqb-true, ne_eqb, or_parts}}}
+use Rattle.std.specs.{List.{list_any, starts_with}}
 use Rattle.lc_glob.specs.Lists.{is_empty}
 use Rattle.lc_formats.specs.{Blanks.ends_in_blank, MarkdownCells.{begins_address, break_in, cell_byte, is_markup, markdown, markdown_from}}
-use Rattle.lc_formats.specs.MarkdownLaws.{BlankLaw, EscapedLaw, LinkLaw, UnescapedLaw, Sight, plain, escaped, numbered, tag, in_text}
-use Rattle.lc_formats.specs.MarkdownLaws.{seen, bytes_of, is_bare_markup, text_to_tag, begins_domain, begins_link, has_link}
+use Rattle.lc_formats.specs.{MarkdownLaws.{BlankLaw, EscapedLaw, LinkLaw, UnescapedLaw, Sight, plain, escaped, numbered, tag, in_text}}
+use Rattle.lc_formats.specs.{MarkdownLaws.{seen, bytes_of, is_bare_markup, text_to_tag, begins_link, has_link}}
 
 clash : {Q : Type 0} → true ≡ false → Q
 clash e = absurd (cc)
@@ -29,43 +29,30 @@ unmarked b m marked e = ne_eqb b m (λ same. let t : is_markup b ≡ true = ap i
 byte_seen : (b : ℕ) (m blank : Bool) → is_markup b ≡ m → (rest : List ℕ)
     → seen in_text ((if m then 92 ∷ b ∷ [] else if blank then codes "&#32;" else b ∷ []) ++ rest)
     ≡ (if m then escaped b else if blank then numbered 32 else plain b) ∷ seen in_text rest
-byte_seen b true blank e rest = refl
-byte_seen b false true e rest = refl
-byte_seen b false false e rest = rw (unmarked b 92 refl e, unmarked b 60 refl e, unmarked b 38 refl e) refl
+byte_seen b m blank e rest = grind (arith, common_steps, unmarked)
 
 break_seen : (broken : Bool) (rest : List ℕ)
     → seen in_text ((if broken then codes "<wbr>" else []) ++ rest) ≡ (if broken then tag ∷ [] else []) ++ seen in_text rest
-break_seen true rest = refl
-break_seen false rest = refl
+break_seen broken rest = grind (arith, common_steps)
 
 all_seen : (first : Bool) (text : List ℕ) → seen in_text (markdown_from first text) ≡ sights_from first text
 all_seen first [] = refl
-all_seen first (b ∷ bs) =
-    byte_seen b (is_markup b) ((first || is_empty bs) && b == 32) refl (break_in (b ∷ bs) ++ markdown_from false bs)
-    ∙ ap (λ (ss : List Sight). sight (first || is_empty bs) b ∷ ss)
-    (break_seen (begins_address (b ∷ bs)) (markdown_from false bs)
-    ∙ ap (λ (ss : List Sight). breaks (b ∷ bs) ++ ss) (all_seen false bs))
+all_seen first (b ∷ bs) = grind (arith, common_steps, byte_seen, break_seen, all_seen false bs)
 
 -- ---- reading back
 
 byte_read : (b : ℕ) (m at_end : Bool) (rest : List Sight) (text : List ℕ) → flat_map bytes_of rest ≡ text
     → (blank : Bool) → (b == 32) ≡ blank
     → flat_map bytes_of ((if m then escaped b else if at_end && blank then numbered 32 else plain b) ∷ rest) ≡ b ∷ text
-byte_read b true at_end rest text e blank is = ap (λ (l : List ℕ). b ∷ l) e
-byte_read b false false rest text e blank is = ap (λ (l : List ℕ). b ∷ l) e
-byte_read b false true rest text e true is = ap (λ (l : List ℕ). 32 ∷ l) e ∙ ap (λ (c : ℕ). c ∷ text) (sym (eqb-true b 32 is))
-byte_read b false true rest text e false is = ap (λ (l : List ℕ). b ∷ l) e
+byte_read b m at_end rest text e blank is = grind (arith, common_steps, eqb-true)
 
 break_read : (broken : Bool) (rest : List Sight)
     → flat_map bytes_of ((if broken then tag ∷ [] else []) ++ rest) ≡ flat_map bytes_of rest
-break_read true rest = refl
-break_read false rest = refl
+break_read broken rest = grind (arith, common_steps)
 
 all_read : (first : Bool) (text : List ℕ) → flat_map bytes_of (sights_from first text) ≡ text
 all_read first [] = refl
-all_read first (b ∷ bs) =
-    byte_read b (is_markup b) (first || is_empty bs) (breaks (b ∷ bs) ++ sights_from false bs) bs
-    (break_read (begins_address (b ∷ bs)) (sights_from false bs) ∙ all_read false bs) (b == 32) refl
+all_read first (b ∷ bs) = grind (arith, common_steps, byte_read, break_read, all_read false bs)
 
 pub unescaped_law : UnescapedLaw
 unescaped_law text = ap (λ (ss : List Sight). flat_map bytes_of ss) (all_seen true text) ∙ all_read true text
@@ -74,21 +61,15 @@ unescaped_law text = ap (λ (ss : List Sight). flat_map bytes_of ss) (all_seen t
 
 byte_bare : (b : ℕ) (m blank : Bool) → is_markup b ≡ m
     → is_bare_markup (if m then escaped b else if blank then numbered 32 else plain b) ≡ false
-byte_bare b true blank e = refl
-byte_bare b false true e = refl
-byte_bare b false false e = e
+byte_bare b m blank e = grind (arith, common_steps)
 
 break_bare : (broken : Bool) (rest : List Sight)
     → list_any is_bare_markup ((if broken then tag ∷ [] else []) ++ rest) ≡ list_any is_bare_markup rest
-break_bare true rest = refl
-break_bare false rest = refl
+break_bare broken rest = grind (arith, common_steps)
 
 none_bare : (first : Bool) (text : List ℕ) → list_any is_bare_markup (sights_from first text) ≡ false
 none_bare first [] = refl
-none_bare first (b ∷ bs) =
-    ap (λ (x : Bool). x || list_any is_bare_markup (breaks (b ∷ bs) ++ sights_from false bs))
-    (byte_bare b (is_markup b) ((first || is_empty bs) && b == 32) refl)
-    ∙ break_bare (begins_address (b ∷ bs)) (sights_from false bs) ∙ none_bare false bs
+none_bare first (b ∷ bs) = grind (arith, common_steps, byte_bare, break_bare, none_bare false bs)
 
 pub escaped_law : EscapedLaw
 escaped_law text = ap (list_any is_bare_markup) (all_seen true text) ∙ none_bare true text
@@ -97,36 +78,22 @@ escaped_law text = ap (list_any is_bare_markup) (all_seen true text) ∙ none_ba
 
 -- a text that begins so does with more behind it
 starts_more : (mark text rest : List ℕ) → starts_with nat_eq text mark ≡ true → starts_with nat_eq (text ++ rest) mark ≡ true
-starts_more [] text rest e = refl
-starts_more (m ∷ ms) [] rest e = absurd (cc)
-starts_more (m ∷ ms) (b ∷ bs) rest e =
-    let parts = and_parts (nat_eq m b) (starts_with nat_eq bs ms) e in
-    rw (parts.0, starts_more ms bs rest parts.1) refl
+starts_more mark text rest e = grind (arith, common_steps, and_parts)
 
 starts_less : (mark text rest : List ℕ) → starts_with nat_eq (text ++ rest) mark ≡ false → starts_with nat_eq text mark ≡ false
-starts_less mark text rest e = at (starts_with nat_eq text mark) refl
-  where
-    at : (b : Bool) → starts_with nat_eq text mark ≡ b → b ≡ false
-    at true is = clash (sym (starts_more mark text rest is) ∙ e)
-    at false is = refl
+starts_less mark text rest e = grind (arith, common_steps, clash, starts_more)
 
 byte_text : (b : ℕ) (m at_end blank : Bool) → (b == 32) ≡ blank → (ss : List Sight)
     → text_to_tag ((if m then escaped b else if at_end && blank then numbered 32 else plain b) ∷ ss) ≡ b ∷ text_to_tag ss
-byte_text b true at_end blank is ss = refl
-byte_text b false false blank is ss = refl
-byte_text b false true false is ss = refl
-byte_text b false true true is ss = ap (λ (c : ℕ). c ∷ text_to_tag ss) (sym (eqb-true b 32 is))
+byte_text b m at_end blank is ss = grind (arith, common_steps, eqb-true)
 
 break_text : (broken : Bool) (ss : List Sight)
     → text_to_tag ((if broken then tag ∷ [] else []) ++ ss) ≡ (if broken then [] else text_to_tag ss)
-break_text true ss = refl
-break_text false ss = refl
+break_text broken ss = grind (arith, common_steps)
 
 text_here : (first : Bool) (b : ℕ) (bs : List ℕ)
     → text_to_tag (sights_from first (b ∷ bs)) ≡ b ∷ (if begins_address (b ∷ bs) then [] else text_to_tag (sights_from false bs))
-text_here first b bs =
-    byte_text b (is_markup b) (first || is_empty bs) (b == 32) refl (breaks (b ∷ bs) ++ sights_from false bs)
-    ∙ ap (λ (l : List ℕ). b ∷ l) (break_text (begins_address (b ∷ bs)) (sights_from false bs))
+text_here first b bs = grind (arith, common_steps, byte_text, break_text)
 
 -- up to the next tag is a front of the text
 front_of : (first : Bool) (text : List ℕ) → (rest : List ℕ) × (text_to_tag (sights_from first text) ++ rest ≡ text)
@@ -141,28 +108,15 @@ front_of first (b ∷ bs) =
     up_to false more = more
 
 one_byte : (x : Bool) → (x && false) ≡ false
-one_byte true = refl
-one_byte false = refl
+one_byte x = grind (arith, common_steps)
 
 -- one byte is no link, nor is what begins no address
 no_link_here : (b : ℕ) (bs front rest : List ℕ) → front ++ rest ≡ bs → (broken : Bool) → begins_address (b ∷ bs) ≡ broken
     → begins_link (b ∷ (if broken then [] else front)) ≡ false
-no_link_here b bs front rest e true is = rw (one_byte (nat_eq 119 b), one_byte (nat_eq 58 b)) refl
-no_link_here b bs front rest e false is =
-    let same : begins_address ((b ∷ front) ++ rest) ≡ false = ap (λ (l : List ℕ). begins_address (b ∷ l)) e ∙ is in
-    let web = or_parts _ _ same in
-    let others = or_parts _ _ web.1 in
-    rw (starts_less (codes "www.") (b ∷ front) rest web.0, starts_less (codes "://") (b ∷ front) rest others.0) (at front others.1)
-  where
-    at : (front : List ℕ) → starts_with nat_eq (b ∷ (front ++ rest)) (codes "@") ≡ false → begins_domain (b ∷ front) ≡ false
-    at [] none = refl
-    at (c ∷ cs) none =
-        ne_eqb b 64 (λ is. let t : starts_with nat_eq (b ∷ c ∷ (cs ++ rest)) (codes "@") ≡ true
-        = ap (λ (x : ℕ). starts_with nat_eq (x ∷ c ∷ (cs ++ rest)) (codes "@")) is in clash (sym t ∙ none))
+no_link_here b bs front rest e broken is = grind (arith, common_steps, one_byte, or_parts, starts_less, ne_eqb, clash)
 
 break_links : (broken : Bool) (ss : List Sight) → has_link ((if broken then tag ∷ [] else []) ++ ss) ≡ has_link ss
-break_links true ss = refl
-break_links false ss = refl
+break_links broken ss = grind (arith, common_steps)
 
 no_links : (first : Bool) (text : List ℕ) → has_link (sights_from first text) ≡ false
 no_links first [] = refl
@@ -180,24 +134,14 @@ link_law text = ap has_link (all_seen true text) ∙ no_links true text
 
 byte_begins : (b : ℕ) (m blank : Bool) → (b == 32) ≡ blank → (rest : List ℕ)
     → starts_with nat_eq ((if m then 92 ∷ b ∷ [] else if blank then codes "&#32;" else b ∷ []) ++ rest) (codes " ") ≡ false
-byte_begins b true blank is rest = refl
-byte_begins b false true is rest = refl
-byte_begins b false false is rest =
-    let other : nat_eq 32 b ≡ false =
-    ne_eqb 32 b (λ same. let t : (b == 32) ≡ true = ap (λ (x : ℕ). x == 32) (sym same) in clash (sym t ∙ is)) in
-    rw other refl
+byte_begins b m blank is rest = grind (arith, common_steps, ne_eqb, clash)
 
 begins_unblank : (text : List ℕ) → starts_with nat_eq (markdown text) (codes " ") ≡ false
 begins_unblank [] = refl
 begins_unblank (b ∷ bs) = byte_begins b (is_markup b) (b == 32) refl (break_in (b ∷ bs) ++ markdown_from false bs)
 
 not_empty : (at_end : Bool) (b : ℕ) (rest : List ℕ) → is_empty (cell_byte at_end b ++ rest) ≡ false
-not_empty at_end b rest = at (is_markup b) (at_end && b == 32)
-  where
-    at : (m blank : Bool) → is_empty ((if m then 92 ∷ b ∷ [] else if blank then codes "&#32;" else b ∷ []) ++ rest) ≡ false
-    at true blank = refl
-    at false true = refl
-    at false false = refl
+not_empty at_end b rest = grind (arith, common_steps)
 
 ends_behind : (xs ys : List ℕ) → is_empty ys ≡ false → ends_in_blank ys ≡ false → ends_in_blank (xs ++ ys) ≡ false
 ends_behind [] ys some e = e
@@ -208,17 +152,10 @@ ends_behind (x ∷ z ∷ zs) ys some e = ends_behind (z ∷ zs) ys some e
 last_byte : (b : ℕ) (m blank broken : Bool) → is_markup b ≡ m → (b == 32) ≡ blank
     → ends_in_blank ((if m then 92 ∷ b ∷ [] else if blank then codes "&#32;" else b ∷ [])
     ++ ((if broken then codes "<wbr>" else []) ++ [])) ≡ false
-last_byte b true blank true marked is = refl
-last_byte b true blank false marked is =
-    ne_eqb b 32 (λ same. let t : is_markup b ≡ false = ap is_markup same in clash (sym marked ∙ t))
-last_byte b false true true marked is = refl
-last_byte b false true false marked is = refl
-last_byte b false false true marked is = refl
-last_byte b false false false marked is = is
+last_byte b m blank broken marked is = grind (arith, common_steps, ne_eqb, clash)
 
 or_last : (x y : Bool) → ((x || true) && y) ≡ y
-or_last true y = refl
-or_last false y = refl
+or_last x y = grind (arith, common_steps)
 
 ends_unblank : (first : Bool) (text : List ℕ) → ends_in_blank (markdown_from first text) ≡ false
 ends_unblank first [] = refl

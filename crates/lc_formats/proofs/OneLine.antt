@@ -1,15 +1,15 @@
 -- Texts without a line feed, and texts that are UTF-8.
-use Rattle.std.proofs.Common.{◌≡◌, ℕ, zero, suc, ◌/◌, ◌%◌, ◌<◌, Bool, true, false, not, ◌==◌, ◌&&◌, ◌||◌, nat_lt, nat_eq, if◌then◌else◌}
-use Rattle.std.proofs.Common.{List, [], ◌∷◌, ◌++◌, length, get_or, codes, decimal, encode_utf8, flat_map, refl, sym, ap, ap₂, ◌∙◌, arith}
-use Rattle.std.proofs.Common.{inl, inr, append-nil}
-use Rattle.std.proofs.lemmas.Bool.{and_parts, and_from, or_left, lt-ltb, ltb-true, ne_eqb, Decides.nat_tests}
-use Rattle.std.proofs.lemmas.List.{Elements.{All-cons, All-head, All-nil, All-tail}, Folds.list_all-append}
-use Rattle.std.proofs.lemmas.Str.{IsUtf8-append, IsUtf8-nil, IsUtf8-encode, IsUtf8-from_is_utf8, scalars-chars, inside_one}
+use Rattle.std.proofs.{lemmas.{Grind.common_steps, Bool.{and_parts, and_from, or_left, lt-ltb, ltb-true, ne_eqb, Decides.nat_tests}}}
+use Rattle.std.proofs.{lemmas.List.{Elements.{All-cons, All-head, All-nil, All-tail}, Folds.list_all-append}}
+use Rattle.std.proofs.{lemmas.Str.{IsUtf8-append, IsUtf8-nil, IsUtf8-encode, IsUtf8-from_is_utf8, scalars-chars, inside_one}, Common.◌≡◌}
+use Rattle.std.proofs.{Common.{ℕ, zero, suc, ◌/◌, ◌%◌, ◌<◌, Bool, true, false, not, ◌==◌, ◌&&◌, ◌||◌, nat_lt, nat_eq, if◌then◌else◌, List}}
+use Rattle.std.proofs.{Common.{[], ◌∷◌, ◌++◌, length, get_or, codes, decimal, encode_utf8, flat_map, refl, sym, ap, ap₂, ◌∙◌, arith, inl}}
+use Rattle.std.proofs.{Common.{inr, append-nil}}
 use Rattle.std.specs.{List.{All, list_all}, Fmt.{digit_glyph, digits, digits_onto}, Str.{IsUtf8, chars, is_utf8, all_scalars}}
-use lib.Utf8.{encode, scalar, scalar_cases}
-use Rattle.json.proofs.Printed.Utf8.{are_ascii, IsUtf8-are_ascii}
+use lib.{Utf8.{encode, scalar, scalar_cases}}
+use Rattle.json.proofs.{Printed.Utf8.{are_ascii, IsUtf8-are_ascii}}
 use Rattle.lc_glob.specs.Bytes.{backslash}
-use Rattle.lc_formats.specs.CellWords.{comma, with_commas}
+use Rattle.lc_formats.specs.{CellWords.{comma, with_commas}}
 use Rattle.lc_text.specs.{Escape.{hex_byte, hex_digit, is_control, escape_byte}, Visible.{is_hidden, visible_byte, visible_bytes}}
 use Rattle.lc_text.specs.Visible.{visible_char}
 
@@ -72,36 +72,17 @@ pub one_line-encode : (c : ℕ) → (c ≡ 10 → ⊥) → is_one_line (encode_u
 one_line-encode c other = encode_without 10 c (omega arith) other
 
 one_line_char : (c : ℕ) → is_one_line (visible_char c) ≡ true
-one_line_char c = at (nat_eq c backslash) (is_hidden c) refl refl
-  where
-    at : (q h : Bool) → nat_eq c backslash ≡ q → is_hidden c ≡ h → is_one_line (visible_char c) ≡ true
-    at true h x y = rw x refl
-    at false true x y = rw (x, y) (one_line_each hex_byte one_line_hex (encode_utf8 c))
-    at false false x y = rw (x, y) (one_line-encode c (λ e. let t : is_hidden c ≡ true = ap is_hidden e in absurd (cc)))
+one_line_char c = grind (arith, common_steps, one_line_each, one_line_hex, one_line-encode)
 
 one_line_escape : (b : ℕ) → is_one_line (escape_byte b) ≡ true
-one_line_escape b = at (nat_eq b backslash) (is_control b) refl refl
-  where
-    at : (q h : Bool) → nat_eq b backslash ≡ q → is_control b ≡ h → is_one_line (escape_byte b) ≡ true
-    at true h x y = rw x refl
-    at false true x y = rw (x, y) (one_line_hex b)
-    at false false x y =
-        rw (x, y) (and_from _ _ (no_feed b (λ e. let t : is_control b ≡ true = ap is_control e in absurd (cc))) refl)
+one_line_escape b = grind (arith, common_steps, one_line_hex, and_from, no_feed)
 
 one_line_byte : (b : ℕ) → is_one_line (visible_byte b) ≡ true
-one_line_byte b = at (nat_lt b 128) refl
-  where
-    at : (low : Bool) → nat_lt b 128 ≡ low → is_one_line (visible_byte b) ≡ true
-    at true e = rw e (one_line_escape b)
-    at false e = rw e (one_line_hex b)
+one_line_byte b = grind (arith, common_steps, one_line_escape, one_line_hex)
 
 -- bytes as a terminal shows them are in one line
 pub one_line-visible : (bytes : List ℕ) → is_one_line (visible_bytes bytes) ≡ true
-one_line-visible bytes = at (is_utf8 bytes)
-  where
-    at : (b : Bool) → is_one_line (if b then flat_map visible_char (chars bytes) else flat_map visible_byte bytes) ≡ true
-    at true = one_line_each visible_char one_line_char (chars bytes)
-    at false = one_line_each visible_byte one_line_byte bytes
+one_line-visible bytes = grind (arith, common_steps, one_line_each, one_line_char, one_line_byte)
 
 -- ---- the same bytes are UTF-8
 
@@ -125,10 +106,7 @@ bytes_of c is = elim (scalar_cases c is) [ inl low ↦ grind (arith, nat_tests) 
 
 -- bytes by a test
 pub small_bytes : (bs : List ℕ) → list_all (λ b. nat_lt b 256) bs ≡ true → All (λ b. b < 256) bs
-small_bytes [] e = All-nil (λ b. b < 256)
-small_bytes (b ∷ bs) e =
-    let parts = and_parts _ _ e in
-    All-cons (λ b. b < 256) b bs (ltb-true b 256 parts.0) (small_bytes bs parts.1)
+small_bytes bs e = grind (arith, common_steps, and_parts, ltb-true)
 
 utf8_char : (c : ℕ) → scalar c ≡ true → IsUtf8 (visible_char c)
 utf8_char c is = at (nat_eq c backslash) (is_hidden c) refl refl
@@ -175,8 +153,7 @@ is_digit d = nat_lt 47 d && nat_lt d 58
 
 either_list : (p : ℕ → Bool) (b : Bool) (xs ys : List ℕ) → list_all p xs ≡ true → list_all p ys ≡ true
     → list_all p (if b then xs else ys) ≡ true
-either_list p true xs ys x y = x
-either_list p false xs ys x y = y
+either_list p b xs ys x y = grind (arith, common_steps)
 
 digits_all : (k n : ℕ) (acc : List ℕ) → list_all is_digit acc ≡ true → list_all is_digit (digits_onto k 10 false n acc) ≡ true
 digits_all zero n acc all = all

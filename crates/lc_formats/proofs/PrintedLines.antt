@@ -1,19 +1,16 @@
 -- What is printed of a line: its cells up to the last that is shown.
-use Rattle.std.proofs.Common.{◌≡◌, ℕ, suc, ◌+◌, ◌-◌, ◌≤◌, Bool, true, false, not, if◌then◌else◌, List, [], ◌∷◌, ◌++◌, length, codes}
-use Rattle.std.proofs.Common.{slice_index, refl, sym, ap, ap₂, ◌∙◌, arith, append_assoc, append-nil}
-use Rattle.lc_formats.specs.{Blanks.{char_before, ends_in_blank, padded_from, padded_line, without_blanks}, Columns.CellModel}
-use Rattle.lc_formats.specs.Columns.{before_shown, cells_from, gap, is_shown, line_in, shown_cells, spaces, text_at, text_before}
-use Rattle.lc_formats.specs.{Columns.width_of, Layouts.{has_no_end, is_open}}
-use Rattle.lc_sheet.specs.declared.column.Side.{Side, TheVariants.{Left, Right, End}}
+use Rattle.std.proofs.{lemmas.Grind.common_steps, Common.{◌≡◌, ℕ, suc, ◌+◌, ◌≤◌, Bool, true, false, not, if◌then◌else◌, List, [], ◌∷◌}}
+use Rattle.std.proofs.{Common.{◌++◌, length, codes, slice_index, refl, ap, ◌∙◌, arith, append_assoc, append-nil}}
+use Rattle.lc_formats.specs.{Blanks.{ends_in_blank, padded_from, padded_line, without_blanks}, Columns.{CellModel, before_shown}}
+use Rattle.lc_formats.specs.{Columns.{cells_from, gap, is_shown, line_in, shown_cells, text_at, text_before}, Layouts.{has_no_end, is_open}}
+use Rattle.lc_sheet.specs.{declared.column.Side.{Side, TheVariants.{Left, Right, End}}}
 use Rattle.lc_formats.proofs.{BlankEnds.{blank_spaces, drop_end, ends-append, is_none, keep_end, some_after, without_none}, EvenLines.Fit}
-use Rattle.lc_formats.proofs.EvenLines.{front, front_at, is_layout, sides}
+use Rattle.lc_formats.proofs.{EvenLines.{front, front_at, is_layout, sides}}
 
 -- ---- a line of cells in columns
 
 pub no_end_rest : (s : Side) (ss : List Side) → has_no_end (s ∷ ss) ≡ true → has_no_end ss ≡ true
-no_end_rest Left ss e = e
-no_end_rest Right ss e = e
-no_end_rest End ss e = absurd (cc)
+no_end_rest s ss e = grind (arith, common_steps)
 
 -- what is printed of these cells
 abbrev printed : List ℕ → List CellModel → List ℕ
@@ -27,9 +24,7 @@ printed-nil (w ∷ ws) = refl
 
 later_cells : (i j w : ℕ) (ws : List ℕ) (cells : List CellModel) → j ≡ suc i → cells_from j (w ∷ ws) cells ≡ cells_from i ws cells
 later_cells i j w ws [] next = refl
-later_cells i j w ws (c ∷ cs) next =
-    ap₂ (λ v l. text_before cs c.side v c.text ++ (gap cs ++ l)) (ap (slice_index (w ∷ ws)) next)
-    (later_cells (i + 1) (j + 1) w ws cs (omega arith))
+later_cells i j w ws (c ∷ cs) next = grind (arith, common_steps, later_cells (i + 1) (j + 1) w ws cs (omega arith))
 
 in_turn : (a b c d : List ℕ) → a ++ (b ++ (c ++ d)) ≡ (a ++ (b ++ c)) ++ d
 in_turn a b c d = simp append_assoc
@@ -38,17 +33,13 @@ cells_printed : (ws : List ℕ) (cells : List CellModel) → length cells ≤ le
 cells_printed [] [] h = refl
 cells_printed [] (c ∷ cs) h = absurd (omega arith)
 cells_printed (w ∷ ws) [] h = refl
-cells_printed (w ∷ ws) (c ∷ cs) h =
-    ap (λ l. text_before cs c.side w c.text ++ (gap cs ++ l)) (later_cells 0 1 w ws cs refl ∙ cells_printed ws cs (omega arith))
-    ∙ in_turn (text_before cs c.side w c.text) (gap cs) (printed ws cs) (codes "\n")
+cells_printed (w ∷ ws) (c ∷ cs) h = grind (arith, common_steps, later_cells, in_turn, cells_printed ws cs (omega arith))
 
 length_alone : (b : Bool) (c : CellModel) → length (if b then c ∷ [] else []) ≤ 1
-length_alone true c = omega arith
-length_alone false c = omega arith
+length_alone b c = grind (arith, common_steps)
 
 length_before : (c : CellModel) (cs : List CellModel) → length (before_shown c cs) ≤ 1 + length cs
-length_before c [] = length_alone (is_shown c.side c.text) c
-length_before c (d ∷ ds) = omega arith
+length_before c cs = grind (arith, common_steps, length_alone)
 
 length_shown : (cells : List CellModel) → length (shown_cells cells) ≤ length cells
 length_shown [] = omega arith
@@ -70,51 +61,28 @@ EndsBare (c ∷ cs) = (shown_cells cs ≡ [] → ends_in_blank c.text ≡ false)
 -- blanks follow the last text
 last_text : (s : Side) (w : ℕ) (t rest : List ℕ) (ss : List Side) → has_no_end (s ∷ ss) ≡ true → ends_in_blank t ≡ false
     → without_blanks rest ≡ [] → without_blanks (front_at s w t ++ rest) ≡ (if is_shown s t then text_before [] s w t else [])
-last_text Left w [] rest ss closed bare none =
-    let k = w - width_of [] in drop_end (spaces k) rest none ∙ blank_spaces k
-last_text Left w (d ∷ ds) rest ss closed bare none =
-    let t = d ∷ ds in
-    let k = w - width_of t in
-    drop_end (t ++ spaces k) rest none ∙ drop_end t (spaces k) (blank_spaces k) ∙ without_none t bare ∙ sym (append-nil t)
-last_text Right w [] rest ss closed bare none =
-    let k = w - width_of [] in drop_end (spaces k ++ []) rest none ∙ drop_end (spaces k) [] refl ∙ blank_spaces k
-last_text Right w (d ∷ ds) rest ss closed bare none =
-    let t = d ∷ ds in
-    let k = w - width_of t in
-    drop_end (spaces k ++ t) rest none ∙ without_none (spaces k ++ t) (ends-append (spaces k) t (λ e. absurd (cc)) ∙ bare)
-last_text End w t rest ss closed bare none = absurd (cc)
+last_text s w t rest ss closed bare none = grind (arith, common_steps, drop_end, blank_spaces, without_none, append-nil, ends-append)
 
 last_some : (s : Side) (w : ℕ) (t : List ℕ) (ss : List Side) → has_no_end (s ∷ ss) ≡ true
     → is_none (if is_shown s t then text_before [] s w t else []) ≡ not (is_shown s t)
-last_some Left w [] ss closed = refl
-last_some Left w (d ∷ ds) ss closed = refl
-last_some Right w [] ss closed = refl
-last_some Right w (d ∷ ds) ss closed = some_after (spaces (w - width_of (d ∷ ds))) d ds
-last_some End w t ss closed = absurd (cc)
+last_some s w t ss closed = grind (arith, common_steps, some_after)
 
 printed_last : (b : Bool) (c : CellModel) (w : ℕ) (ws : List ℕ)
     → printed (w ∷ ws) (if b then c ∷ [] else []) ≡ (if b then text_before [] c.side w c.text else [])
-printed_last true c w ws =
-    ap (λ l. text_before [] c.side w c.text ++ l) (printed-nil ws) ∙ append-nil (text_before [] c.side w c.text)
-printed_last false c w ws = refl
+printed_last b c w ws = grind (arith, common_steps, printed-nil, append-nil)
 
 none_alone : (b : Bool) (c : CellModel) → is_none (if b then c ∷ [] else []) ≡ not b
-none_alone true c = refl
-none_alone false c = refl
+none_alone b c = grind (arith, common_steps)
 
 blank_gap : (cs : List CellModel) (rest : List ℕ) → without_blanks rest ≡ [] → without_blanks (gap cs ++ rest) ≡ []
-blank_gap [] rest none = none
-blank_gap (c ∷ cs) rest none = ap (λ l. char_before 32 (char_before 32 l)) none
+blank_gap cs rest none = grind (arith, common_steps)
 
 kept_after : (a b p : List ℕ) → without_blanks b ≡ p → is_none p ≡ false → without_blanks (a ++ (codes "  " ++ b)) ≡ a ++ (codes "  " ++ p)
-kept_after a b [] is some = absurd (cc)
-kept_after a b (q ∷ qs) is some = keep_end a (codes "  " ++ b) 32 (32 ∷ q ∷ qs) (keep_end (codes "  ") b q qs is)
+kept_after a b p is some = grind (arith, common_steps, keep_end)
 
 text_kept : (s : Side) (w : ℕ) (t : List ℕ) (d : CellModel) (ds : List CellModel) (ss : List Side) → has_no_end (s ∷ ss) ≡ true
     → front_at s w t ≡ text_before (d ∷ ds) s w t
-text_kept Left w t d ds ss closed = refl
-text_kept Right w t d ds ss closed = refl
-text_kept End w t d ds ss closed = absurd (cc)
+text_kept s w t d ds ss closed = grind (arith, common_steps)
 
 -- the padded cells without their last blanks are what is printed, and something is printed where a cell is shown
 abbrev IsPrinted : List ℕ → List CellModel → List ℕ → Type 0
@@ -124,18 +92,10 @@ cell_printed : (c : CellModel) (w : ℕ) (ws : List ℕ) (cs later : List CellMo
     → has_no_end (c.side ∷ sides cs) ≡ true → (shown_cells cs ≡ [] → ends_in_blank c.text ≡ false) → IsPrinted ws later (front ws cs)
     → IsPrinted (w ∷ ws) (before_shown c later) (front_at c.side w c.text ++ (gap cs ++ front ws cs))
 cell_printed c w ws cs [] is closed bare rest =
-    let b = is_shown c.side c.text in
-    let none = blank_gap cs (front ws cs) (rest.0 ∙ printed-nil ws) in
-    let own = printed_last b c w ws in (
-      last_text c.side w c.text (gap cs ++ front ws cs) (sides cs) closed (bare is) none ∙ sym own,
-      none_alone b c ∙ sym (ap (λ (l : List ℕ). is_none l) own ∙ last_some c.side w c.text (sides cs) closed),
-    )
+    grind (arith, common_steps, blank_gap, printed-nil, printed_last, last_text, none_alone, last_some, kept_after, text_kept, some_after)
 cell_printed c w ws [] (d ∷ ds) is closed bare rest = absurd (cc)
-cell_printed c w ws (e ∷ es) (d ∷ ds) is closed bare rest = (
-  kept_after (front_at c.side w c.text) (front ws (e ∷ es)) (printed ws (d ∷ ds)) rest.0 (sym rest.1)
-      ∙ ap (λ (l : List ℕ). l ++ (codes "  " ++ printed ws (d ∷ ds))) (text_kept c.side w c.text d ds (sides (e ∷ es)) closed),
-  sym (some_after (text_before (d ∷ ds) c.side w c.text) 32 (32 ∷ printed ws (d ∷ ds))),
-)
+cell_printed c w ws (e ∷ es) (d ∷ ds) is closed bare rest =
+    grind (arith, common_steps, blank_gap, printed-nil, printed_last, last_text, none_alone, last_some, kept_after, text_kept, some_after)
 
 all_printed : (ws : List ℕ) (cells : List CellModel) → Fit ws cells → has_no_end (sides cells) ≡ true → EndsBare cells
     → IsPrinted ws (shown_cells cells) (front ws cells)
@@ -148,11 +108,7 @@ all_printed (w ∷ ws) (c ∷ cs) fits closed bare =
 -- a line of cells in columns is the padded line without the blanks at its end
 pub line_printed : (ws : List ℕ) (cells : List CellModel) → Fit ws cells → has_no_end (sides cells) ≡ true → EndsBare cells
     → line_in ws cells ≡ without_blanks (front ws cells) ++ codes "\n"
-line_printed ws cells fits closed bare =
-    let shown = shown_cells cells in
-    let long = length_shown cells in
-    let same = fit_length ws cells fits in
-    cells_printed ws shown (omega arith) ∙ ap (λ (l : List ℕ). l ++ codes "\n") (sym (all_printed ws cells fits closed bare).0)
+line_printed ws cells fits closed bare = grind (arith, common_steps, length_shown, fit_length, cells_printed, all_printed)
 
 -- ---- a line with an open end
 
@@ -165,24 +121,16 @@ layout_open (End ∷ []) e = refl
 layout_open (End ∷ s ∷ ss) e = absurd (cc)
 
 open_rest : (s t : Side) (ss : List Side) → is_open (s ∷ t ∷ ss) ≡ true → is_open (t ∷ ss) ≡ true
-open_rest Left t ss e = e
-open_rest Right t ss e = e
-open_rest End t ss e = absurd (cc)
+open_rest s t ss e = grind (arith, common_steps)
 
 open_shown : (s : Side) (t : List ℕ) → is_open (s ∷ []) ≡ true → is_shown s t ≡ true
-open_shown Left t e = absurd (cc)
-open_shown Right t e = absurd (cc)
-open_shown End t e = refl
+open_shown s t e = grind (arith, common_steps)
 
 open_text : (s : Side) (w : ℕ) (t : List ℕ) → is_open (s ∷ []) ≡ true → text_before [] s w t ≡ text_at s w t
-open_text Left w t e = absurd (cc)
-open_text Right w t e = refl
-open_text End w t e = refl
+open_text s w t e = grind (arith, common_steps)
 
 text_padded : (s : Side) (w : ℕ) (t : List ℕ) (d : CellModel) (ds : List CellModel) → text_before (d ∷ ds) s w t ≡ text_at s w t
-text_padded Left w t d ds = refl
-text_padded Right w t d ds = refl
-text_padded End w t d ds = refl
+text_padded s w t d ds = grind (arith, common_steps)
 
 shown_open : (cells : List CellModel) → is_open (sides cells) ≡ true → shown_cells cells ≡ cells
 shown_open [] e = refl
@@ -193,8 +141,7 @@ padded_open : (i : ℕ) (ws : List ℕ) (cells : List CellModel) → is_open (si
 padded_open i ws [] e = refl
 padded_open i ws (c ∷ []) e = ap (λ l. l ++ codes "\n") (open_text c.side (slice_index ws i) c.text e)
 padded_open i ws (c ∷ d ∷ ds) e =
-    ap₂ (λ a l. a ++ (codes "  " ++ l)) (text_padded c.side (slice_index ws i) c.text d ds)
-    (padded_open (i + 1) ws (d ∷ ds) (open_rest c.side d.side (sides ds) e))
+    grind (arith, common_steps, open_text, text_padded, open_rest, padded_open (i + 1) ws (d ∷ ds) (open_rest c.side d.side (sides ds) e))
 
 -- a line with an open end is padded
 pub line_open : (ws : List ℕ) (cells : List CellModel) → is_open (sides cells) ≡ true → line_in ws cells ≡ padded_line ws cells

@@ -1,29 +1,21 @@
 -- How wide the lines of rows, of their sums and of the last numbers are.
-use Rattle.std.proofs.Common.{◌≡◌, ◌*◌, ℕ, Bool, true, false, if◌then◌else◌, List, [], ◌∷◌, ◌++◌, length, map, codes, Option, Some}
-use Rattle.std.proofs.{Common.{None, append-nil, refl, sym, ap, ◌∙◌, subst, arith}, lemmas.List.Elements.{All-append, All-cons, All-head}}
-use Rattle.std.proofs.lemmas.List.Elements.{All-nil, All-tail, All-take}
+use Rattle.std.proofs.{lemmas.{Grind.common_steps, List.Elements.{All-append, All-cons, All-head, All-nil, All-tail, All-take}}, Common.◌≡◌}
+use Rattle.std.proofs.{Common.{ℕ, Bool, true, false, List, [], ◌∷◌, ◌++◌, length, map, codes, Option, Some, None, append-nil, refl, sym}}
+use Rattle.std.proofs.{Common.{ap, ◌∙◌, subst, arith}}
 use Rattle.std.specs.List.{All}
 use Rattle.lc_text.specs.{Names.named, Visible.visible_bytes}
-use Rattle.lc_sheet.specs.{AttributeColumns.{heading_of, name_at}, ColumnWords.{heading, plain_name, side_of}}
-use Rattle.lc_sheet.specs.Values.{ValueModel, missing, summed, blank, word, flag, name, path, number, share, bar, difference, growth}
-use Rattle.lc_sheet.specs.{Sheets.{SectionModel, SheetModel}, declared.column.{Column.Column, Side.{Side, TheVariants.{Left, Right, End}}}}
-use Rattle.lc_formats.specs.{BarCells.ruled, Blanks.ends_in_blank, Cells.{cell_of, heading_cells, heading_value, line_cells}}
-use Rattle.lc_formats.specs.Cells.{section_cells, shown_in, shown_text}
-use Rattle.lc_formats.specs.Columns.{CellModel, before_shown, has_text, is_shown, rule_in, shown_cells, widths_of}
-use Rattle.lc_formats.specs.{Layouts.has_no_end, PaddedText.{padded_counts, padded_rows, padded_summary}, Readable.{AreReadable, AreRows}}
-use Rattle.lc_formats.specs.{Readable.{EndsInNumbers, IsNumeral, IsTabular}, Shares.{full_bar, rounded_parts}}
-use Rattle.lc_formats.specs.TableText.{count_cells, count_lines, counts_of}
-use Rattle.lc_formats.specs.TableText.{entries_line, row_lines, rows_in_columns, shown_lines, shown_totals, summary, summary_bar}
-use Rattle.lc_formats.specs.TableText.{summary_widths}
-use Rattle.lc_formats.specs.WidthLaws.{CountsWidthLaw, SummaryWidthLaw}
-use Rattle.lc_formats.proofs.BlankEnds.{ends_bar, ends_change, ends_growth, ends_number, ends_share, shown_number}
-use Rattle.lc_formats.proofs.EvenLines.{Fit, IsSound, span}
-use Rattle.lc_formats.proofs.EvenParts.{IsEven, IsRow, are_even, even-append, even_line, even_lines, even_rule, rows_fit, rule_line, shown}
-use Rattle.lc_formats.proofs.{PrintedLines.EndsBare, SoundValues.{like_headings, like_line, named_at, shown_clear, sound_ascii}}
-use Rattle.lc_formats.proofs.SoundValues.{sound_value, visible_clear}
-use Rattle.lc_sheet.specs.declared.column.Column.TheVariants as column
-use Rattle.lc_sheet.specs.declared.column.Compared.TheVariants as compared
-use Rattle.lc_sheet.specs.declared.key.Key.TheVariants as key
+use Rattle.lc_sheet.specs.{AttributeColumns.{heading_of, name_at}, ColumnWords.{plain_name, side_of}, Values.{ValueModel, number}}
+use Rattle.lc_sheet.specs.{Sheets.{SectionModel, SheetModel}, declared.column.{Column.Column, Side.{Side, TheVariants.{Left, Right}}}}
+use Rattle.lc_formats.specs.{BarCells.ruled, Blanks.ends_in_blank, Cells.{cell_of, heading_cells, heading_value, line_cells, section_cells}}
+use Rattle.lc_formats.specs.{Cells.{shown_in, shown_text}, Columns.{CellModel, before_shown, has_text, is_shown, rule_in, shown_cells}}
+use Rattle.lc_formats.specs.{Columns.widths_of, Layouts.has_no_end, PaddedText.{padded_counts, padded_rows, padded_summary}}
+use Rattle.lc_formats.specs.{Readable.{AreReadable, AreRows, EndsInNumbers, IsNumeral, IsTabular}, Shares.full_bar, TableText.count_cells}
+use Rattle.lc_formats.specs.{TableText.{count_lines, counts_of, entries_line, row_lines, rows_in_columns, shown_lines, shown_totals}}
+use Rattle.lc_formats.specs.{TableText.{summary, summary_bar, summary_widths}, WidthLaws.{CountsWidthLaw, SummaryWidthLaw}}
+use Rattle.lc_formats.proofs.{BlankEnds.{ends_bar, ends_change, ends_growth, ends_number, ends_share, shown_number}, EvenLines.Fit}
+use Rattle.lc_formats.proofs.{EvenLines.{IsSound, span}, EvenParts.{IsEven, IsRow, are_even, even-append, even_line, even_lines, even_rule}}
+use Rattle.lc_formats.proofs.{EvenParts.{rows_fit, rule_line, shown}, PrintedLines.EndsBare, SoundValues.{like_headings, like_line}}
+use Rattle.lc_formats.proofs.{SoundValues.{named_at, shown_clear, sound_ascii, sound_value, visible_clear}}
 
 -- ---- the ends of the lines
 
@@ -36,38 +28,23 @@ bare_ends [] bare = tt
 bare_ends (c ∷ cs) bare = ((λ none. bare.0), bare_ends cs bare.1)
 
 later_none : (c : CellModel) (later : List CellModel) → before_shown c later ≡ [] → later ≡ []
-later_none c [] none = refl
-later_none c (d ∷ ds) none = absurd (cc)
+later_none c later none = grind (arith, common_steps)
 
 shown_rest : (ks ns : List CellModel) → shown_cells (ks ++ ns) ≡ [] → shown_cells ns ≡ []
 shown_rest [] ns none = none
 shown_rest (k ∷ ks) ns none = shown_rest ks ns (later_none k (shown_cells (ks ++ ns)) none)
 
 some_shown : (c : CellModel) (later : List CellModel) → is_shown c.side c.text ≡ true → before_shown c later ≡ [] → ⊥
-some_shown c [] is none =
-    let one : c ∷ [] ≡ [] = sym (ap (λ b. if b then c ∷ [] else []) is) ∙ none in absurd (cc)
-some_shown c (d ∷ ds) is none = absurd (cc)
+some_shown c later is none = grind (arith, common_steps)
 
 -- names before numbers
 bare_behind : (ks : List CellModel) (c : CellModel) (cs : List CellModel) → is_shown c.side c.text ≡ true → AreBare (c ∷ cs)
     → EndsBare (ks ++ (c ∷ cs))
 bare_behind [] c cs is bare = bare_ends (c ∷ cs) bare
-bare_behind (k ∷ ks) c cs is bare =
-    ((λ none. absurd (some_shown c (shown_cells cs) is (shown_rest ks (c ∷ cs) none))), bare_behind ks c cs is bare)
+bare_behind (k ∷ ks) c cs is bare = grind (arith, common_steps, bare_ends, some_shown, shown_rest, bare_behind ks c cs is bare)
 
 bare_numeral : (k : ℕ) (v : ValueModel) → IsNumeral v → ends_in_blank (shown_in k v) ≡ false
-bare_numeral k missing is = absurd is
-bare_numeral k summed is = refl
-bare_numeral k blank is = refl
-bare_numeral k (word w) is = absurd is
-bare_numeral k (flag is_set) is = absurd is
-bare_numeral k (name n) is = absurd is
-bare_numeral k (path p) is = absurd is
-bare_numeral k (number n) is = ends_number n
-bare_numeral k (share part whole) is = ends_share (rounded_parts 1000 part whole)
-bare_numeral k (bar part whole) is = ends_bar (rounded_parts (8 * k) part whole)
-bare_numeral k (difference old new) is = ends_change old new
-bare_numeral k (growth old new) is = ends_growth old new
+bare_numeral k v is = grind (arith, common_steps, ends_number, ends_share, ends_bar, ends_change, ends_growth)
 
 bare_numerals : (k : ℕ) (columns : List Column) (values : List ValueModel) → All IsNumeral values → AreBare (line_cells k columns values)
 bare_numerals k [] values are = tt
@@ -76,9 +53,7 @@ bare_numerals k (c ∷ cs) (v ∷ vs) are =
     (bare_numeral k v (All-head IsNumeral v vs are), bare_numerals k cs vs (All-tail IsNumeral v vs are))
 
 number_shown : (side : Side) (t : List ℕ) → has_text t ≡ true → is_shown side t ≡ true
-number_shown Left t is = is
-number_shown Right t is = is
-number_shown End t is = refl
+number_shown side t is = grind (arith, common_steps)
 
 -- the cells before one value, its own and those after it
 parted : (k : ℕ) (columns : List Column) (keys : List ValueModel) (v : ValueModel) (more : List ValueModel)
@@ -102,10 +77,7 @@ bare_parted k columns keys n more own are =
 
 bare_line : (k : ℕ) (columns : List Column) (values : List ValueModel) → AreReadable columns values → EndsInNumbers values
     → EndsBare (line_cells k columns values)
-bare_line k columns values own ends =
-    let is = ends.3 in
-    subst (λ (vs : List ValueModel). EndsBare (line_cells k columns vs)) (sym is)
-    (bare_parted k columns ends.0 ends.2 ends.1 (subst (AreReadable columns) is own) ends.4)
+bare_line k columns values own ends = grind (arith, common_steps, bare_parted)
 
 -- names whose headings end in no blank
 abbrev BareNames : List (List ℕ) → Type 0
@@ -120,11 +92,7 @@ bare_attribute names bare place =
     place
 
 heading_bare : (names : List (List ℕ)) → BareNames names → (c : Column) → ends_in_blank (shown_text (heading_value names c)) ≡ false
-heading_bare names bare (column.Key (key.Attribute place)) = bare_attribute names bare place
-heading_bare names bare (column.Old (compared.Key (key.Attribute place))) = bare_attribute names bare place
-heading_bare names bare (column.New (compared.Key (key.Attribute place))) = bare_attribute names bare place
-heading_bare names bare other =
-    ap ends_in_blank (shown_clear (heading names other) (grind arith) (grind arith)) ∙ grind arith
+heading_bare names bare c = grind (arith, common_steps, bare_attribute, shown_clear)
 
 bare_headings : (names : List (List ℕ)) → BareNames names → (columns : List Column) → AreBare (heading_cells names columns)
 bare_headings names bare [] = tt

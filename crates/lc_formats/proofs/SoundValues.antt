@@ -1,23 +1,22 @@
 -- The texts of values are in one line, and UTF-8.
-use Rattle.std.proofs.Common.{◌≡◌, ◌==◌, ◌*◌, ℕ, ◌/◌, ◌%◌, nat_lt, Bool, true, false, if◌then◌else◌, List, [], ◌∷◌, ◌++◌, map, codes}
-use Rattle.std.proofs.{Common.{decimal, encode_utf8, Option, Some, None, unwrap_or, inl, inr, append-nil, refl, sym, ap, ◌∙◌, subst, arith}}
-use Rattle.std.proofs.lemmas.{Bool.Decides.nat_tests, List.Elements.{All-get_or, All-nil}, Option.{slice_get_cases, unwrap_or-slice_get}}
-use Rattle.std.proofs.lemmas.Str.{IsUtf8-append, IsUtf8-encode}
+use Rattle.std.proofs.{Common.{rules, ◌≡◌, ◌==◌, ◌*◌, ℕ, nat_lt, Bool, true, if◌then◌else◌, List, [], ◌∷◌, ◌++◌, map, codes, decimal}}
+use Rattle.std.proofs.{Common.{encode_utf8, Option, Some, None, append-nil, refl, ap, ◌∙◌, arith}, lemmas.Grind.common_steps}
+use Rattle.std.proofs.{lemmas.{Bool.Decides.nat_tests, List.Elements.All-nil, Option.{slice_get_cases, unwrap_or-slice_get}}}
+use Rattle.std.proofs.{lemmas.Str.{IsUtf8-append, IsUtf8-encode}}
 use Rattle.std.specs.{Int.abs_diff, List.{All, list_all}, Str.IsUtf8}
 use lib.Utf8.{low_scalar}
-use Rattle.json.proofs.Printed.Utf8.{are_ascii, IsUtf8-are_ascii}
+use Rattle.json.proofs.{Printed.Utf8.{are_ascii, IsUtf8-are_ascii}}
 use Rattle.lc_text.specs.{Names.{NameModel, line_end}, Visible.{is_clear, visible_bytes, visible_path}}
-use Rattle.lc_text.proofs.Clear.{visible_bytes-text, visible_char-clear}
+use Rattle.lc_text.proofs.{Clear.{visible_bytes-text, visible_char-clear}}
 use Rattle.lc_sheet.specs.{ColumnWords.{heading, heading_name, plain_name, side_of}, Values.{ValueModel, missing, summed, blank, word}}
 use Rattle.lc_sheet.specs.{Values.{flag, flag_word, name, path, number, share, bar, difference, growth}, declared.column.Column.Column}
-use Rattle.lc_sheet.specs.declared.column.Side.{Side, TheVariants.{Left, Right, End}}
+use Rattle.lc_sheet.specs.{declared.column.Side.{Side, TheVariants.{Left, Right, End}}, AttributeColumns.{heading_of, name_at}}
 use Rattle.lc_formats.specs.{CellWords.{change_word, sign, with_commas}, Cells.{heading_cells, line_cells, shown_in, shown_text}}
 use Rattle.lc_formats.specs.{Readable.{AreBytes, AreNames, AreReadable, HasBytes, IsPlain, IsReadable, is_printable}}
-use Rattle.lc_formats.specs.Shares.{bar as bar_text, rounded_parts, share_word}
+use Rattle.lc_formats.specs.{Shares.{bar as bar_text, rounded_parts, share_word}}
 use Rattle.lc_formats.proofs.{Bars.of_bar, EvenLines.IsSound, EvenParts.IsLike, OneLine.{is_no_feed, is_one_line, low_text}}
-use Rattle.lc_formats.proofs.OneLine.{one_line-append, one_line-decimal, one_line-encode, one_line-number, one_line-visible, small_bytes}
+use Rattle.lc_formats.proofs.{OneLine.{one_line-append, one_line-decimal, one_line-encode, one_line-number, one_line-visible, small_bytes}}
 use Rattle.lc_formats.proofs.OneLine.{utf8-visible}
-use Rattle.lc_sheet.specs.AttributeColumns.{heading_of, name_at}
 use Rattle.lc_sheet.specs.declared.column.Column.TheVariants as column
 use Rattle.lc_sheet.specs.declared.column.Compared.TheVariants as compared
 use Rattle.lc_sheet.specs.declared.key.Key.TheVariants as key
@@ -25,9 +24,7 @@ use Rattle.lc_sheet.specs.declared.key.Key.TheVariants as key
 -- ---- texts at a side
 
 pub sound_text : (side : Side) (t : List ℕ) → is_one_line t ≡ true → IsUtf8 t → IsSound side t
-sound_text Left t one is = (one, is)
-sound_text Right t one is = (one, is)
-sound_text End t one is = one
+sound_text side t one is = grind (arith, common_steps)
 
 pub sound_ascii : (side : Side) (t : List ℕ) → is_one_line t ≡ true → are_ascii t ≡ true → IsSound side t
 sound_ascii side t one low = sound_text side t one (IsUtf8-are_ascii t low)
@@ -44,13 +41,10 @@ sound_plain : (side : Side) (t : List ℕ) → IsPlain t → IsSound side t
 sound_plain side t e = let low = low_text is_printable plain_byte t e in sound_ascii side t low.0 low.1
 
 sound_visible : (side : Side) (bs : List ℕ) → HasBytes side bs → IsSound side (visible_bytes bs)
-sound_visible Left bs small = (one_line-visible bs, utf8-visible bs small)
-sound_visible Right bs small = (one_line-visible bs, utf8-visible bs small)
-sound_visible End bs small = one_line-visible bs
+sound_visible side bs small = grind (arith, common_steps, one_line-visible, utf8-visible)
 
 sound_path : (side : Side) (p : List ℕ) → HasBytes side p → IsSound side (visible_path p)
-sound_path side [] small = sound_ascii side (codes ".") refl refl
-sound_path side (b ∷ bs) small = sound_visible side (b ∷ bs) small
+sound_path side p small = search (rules, arith, sound_ascii, sound_visible)
 
 sound_decimal : (side : Side) (n : ℕ) → IsSound side (decimal n)
 sound_decimal side n = sound_text side (decimal n) (one_line-decimal n).0 (one_line-decimal n).1
@@ -61,24 +55,13 @@ sound_line side (Some n) =
     sound_join side (codes ":") (decimal n) (sound_ascii side (codes ":") refl refl) (sound_decimal side n)
 
 sound_name : (side : Side) (n : NameModel) → IsReadable side (name n) → IsSound side (shown_text (name n))
-sound_name side n own =
-    let shown = visible_bytes n.bytes in
-    sound_join side ((n.front ++ shown) ++ n.end) (line_end n.line)
-    (sound_join side (n.front ++ shown) n.end
-    (sound_join side n.front shown (sound_plain side n.front own.0) (sound_visible side n.bytes own.1)) (sound_plain side n.end own.2))
-    (sound_line side n.line)
+sound_name side n own = grind (arith, common_steps, sound_join, sound_plain, sound_visible, sound_line)
 
 sound_number : (side : Side) (n : ℕ) → IsSound side (with_commas (decimal n))
 sound_number side n = sound_text side (with_commas (decimal n)) (one_line-number n).0 (one_line-number n).1
 
 sound_share : (side : Side) (tenths : ℕ) → IsSound side (share_word tenths)
-sound_share side tenths =
-    let a = decimal (tenths / 10) in
-    let b = decimal (tenths % 10) in
-    sound_join side ((a ++ codes ".") ++ b) (codes "%")
-    (sound_join side (a ++ codes ".") b
-    (sound_join side a (codes ".") (sound_decimal side (tenths / 10)) (sound_ascii side (codes ".") refl refl))
-    (sound_decimal side (tenths % 10))) (sound_ascii side (codes "%") refl refl)
+sound_share side tenths = grind (arith, common_steps, sound_join, sound_decimal, sound_ascii)
 
 sound_bar : (side : Side) (eighths : ℕ) → IsSound side (bar_text eighths)
 sound_bar side eighths =
@@ -87,26 +70,17 @@ sound_bar side eighths =
     (IsUtf8-encode c (low_scalar c (omega (arith, high))))) eighths
 
 sound_sign : (side : Side) (more less : Bool) → IsSound side (if more then codes "+" else if less then codes "-" else [])
-sound_sign side true less = sound_ascii side (codes "+") refl refl
-sound_sign side false true = sound_ascii side (codes "-") refl refl
-sound_sign side false false = sound_ascii side [] refl refl
+sound_sign side more less = grind (arith, common_steps, sound_ascii)
 
 sound_change : (side : Side) (old new : ℕ) → IsSound side (change_word old new)
-sound_change side old new =
-    sound_join side (sign old new) (with_commas (decimal (abs_diff old new))) (sound_sign side (nat_lt old new) (nat_lt new old))
-    (sound_number side (abs_diff old new))
+sound_change side old new = grind (arith, common_steps, sound_join, sound_sign, sound_number)
 
 sound_flag : (side : Side) (is_set : Bool) → IsSound side (flag_word is_set)
-sound_flag side true = sound_ascii side (codes "set") refl refl
-sound_flag side false = sound_ascii side (codes "unset") refl refl
+sound_flag side is_set = grind (arith, common_steps, sound_ascii)
 
 sound_growth : (side : Side) (old new : ℕ) (b c : Bool)
     → IsSound side (if b then if c then [] else codes "new" else sign old new ++ share_word (rounded_parts 1000 (abs_diff old new) old))
-sound_growth side old new true true = sound_ascii side [] refl refl
-sound_growth side old new true false = sound_ascii side (codes "new") refl refl
-sound_growth side old new false c =
-    let tenths = rounded_parts 1000 (abs_diff old new) old in
-    sound_join side (sign old new) (share_word tenths) (sound_sign side (nat_lt old new) (nat_lt new old)) (sound_share side tenths)
+sound_growth side old new b c = grind (arith, common_steps, sound_ascii, sound_join, sound_sign, sound_share)
 
 -- the text of a value
 pub sound_value : (k : ℕ) (side : Side) (v : ValueModel) → IsReadable side v → IsSound side (shown_in k v)
@@ -131,16 +105,11 @@ pub like_line : (k : ℕ) (columns : List Column) (values : List ValueModel) →
 like_line k [] [] own = (refl, tt)
 like_line k [] (v ∷ vs) own = absurd own
 like_line k (c ∷ cs) [] own = absurd own
-like_line k (c ∷ cs) (v ∷ vs) own =
-    let rest = like_line k cs vs own.1 in
-    (ap (λ (ss : List Side). side_of c ∷ ss) rest.0, (sound_value k (side_of c) v own.0, rest.1))
+like_line k (c ∷ cs) (v ∷ vs) own = grind (arith, common_steps, sound_value, like_line k cs vs own.1)
 
 -- what holds of nothing and of each of some names holds of the name at a place
 pub named_at : (P : List ℕ → Type 0) → P [] → (names : List (List ℕ)) → All P names → (place : ℕ) → P (name_at names place)
-named_at P none names all place = elim (slice_get_cases names place).1 [
-  | inl found ↦ subst P (sym (unwrap_or-slice_get names place [])) (All-get_or P names place [] found.1 all)
-  | inr past ↦ subst P (sym (ap (λ (o : Option (List ℕ)). unwrap_or o []) past.1)) none
-]
+named_at P none names all place = grind (arith, common_steps, slice_get_cases, unwrap_or-slice_get)
 
 -- a text of ASCII that is shown as it is, alone and as a heading
 pub visible_clear : (t : List ℕ) → list_all is_clear t ≡ true → are_ascii t ≡ true → visible_bytes t ≡ t
@@ -159,9 +128,7 @@ heading_bytes names are (column.New (compared.Key (key.Attribute place))) =
 heading_bytes names are other = small_bytes (heading names other) (grind arith)
 
 bytes_at : (side : Side) (bs : List ℕ) → AreBytes bs → HasBytes side bs
-bytes_at Left bs are = are
-bytes_at Right bs are = are
-bytes_at End bs are = tt
+bytes_at side bs are = grind (arith, common_steps)
 
 -- the cells of the headings
 pub like_headings : (names : List (List ℕ)) (columns : List Column) → AreNames names

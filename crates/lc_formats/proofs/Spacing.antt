@@ -1,14 +1,14 @@
 -- The width of a text with spaces: a space takes one column, whatever is before it and after it.
-use Rattle.std.proofs.Common.{◌≡◌, ℕ, zero, suc, ◌+◌, ◌<◌, Bool, true, false, List, [], ◌∷◌, ◌++◌, replicate, refl, sym, ap, ◌∙◌, arith}
-use Rattle.std.proofs.lemmas.{List.length-replicate, Bool.and_from}
-use Rattle.std.proofs.lemmas.Str.{chars-append, chars-IsAscii, chars-nil, IsUtf8-append, IsUtf8-nil, Ascii.{IsAscii-cons, IsAscii-nil}}
-use Rattle.std.specs.{Int.is_in_range, List.list_all, Str.{IsAscii, IsUtf8, chars}}
+use Rattle.std.proofs.{lemmas.{Grind.common_steps, List.length-replicate, Bool.and_from}}
+use Rattle.std.proofs.{lemmas.Str.{chars-append, chars-IsAscii, chars-nil, IsUtf8-append, IsUtf8-nil}, Common.{◌≡◌, ℕ, zero, suc, ◌+◌, ◌<◌}}
+use Rattle.std.proofs.{Common.{Bool, true, false, List, [], ◌∷◌, ◌++◌, replicate, refl, sym, ap, ◌∙◌, arith}}
+use Rattle.std.specs.{List.list_all, Str.{IsAscii, IsUtf8, chars}}
 use Rattle.json.proofs.Printed.Utf8.{IsUtf8-are_ascii}
-use Rattle.lc_formats.proofs.OneLine.{is_no_feed, is_one_line}
+use Rattle.lc_formats.proofs.{OneLine.{is_no_feed, is_one_line}}
 use Rattle.unicode_width.specs.{declared.state.State.State, Width.{is_emoji_variation_base, Reading, plain, step, past_emoji, read_before}}
 use Rattle.unicode_width.specs.Width.{str_width}
 use Rattle.unicode_width.proofs.{Computing.unicode_width, Rules.{is_simple, str_width-append_simple, str_width-printable}}
-use Rattle.lc_formats.specs.Columns.{width_of, spaces}
+use Rattle.lc_formats.specs.{Columns.{width_of, spaces}}
 
 no_emoji_base : is_emoji_variation_base 32 ≡ false
 unfolding unicode_width
@@ -17,11 +17,7 @@ no_emoji_base = refl
 -- a space reads nothing of the state after it, and leaves none
 step_space : (total : ℕ) (s : State) → step false 32 (total, s) ≡ (total + 1, plain)
 unfolding step past_emoji
-step_space total s = at s.emoji refl
-  where
-    at : (b : Bool) → s.emoji ≡ b → step false 32 (total, s) ≡ (total + 1, plain)
-    at true e = rw (e, no_emoji_base) refl
-    at false e = rw e refl
+step_space total s = grind (arith, common_steps, no_emoji_base)
 
 read_spaces : (n : ℕ) → read_before false (spaces n) (0, plain) ≡ (n, plain)
 read_spaces zero = refl
@@ -33,8 +29,7 @@ copies_pass p c is zero = refl
 copies_pass p c is (suc n) = and_from _ _ is (copies_pass p c is n)
 
 ascii_copies : (c n : ℕ) → c < 128 → IsAscii (replicate n c)
-ascii_copies c zero low = IsAscii-nil
-ascii_copies c (suc n) low = IsAscii-cons c (replicate n c) low (ascii_copies c n low)
+ascii_copies c n low = grind (arith, common_steps)
 
 read_before-append : (xs ys : List ℕ) (r : Reading) → read_before false (xs ++ ys) r ≡ read_before false xs (read_before false ys r)
 read_before-append [] ys r = refl
@@ -45,15 +40,12 @@ unfolding str_width
 width_spaces n = ap (λ r. r.0) (read_spaces n)
 
 after_spaces : (xs : List ℕ) (n : ℕ) → str_width false (xs ++ spaces n) ≡ str_width false xs + n
-after_spaces xs n =
-    str_width-append_simple false xs (spaces n) (copies_pass is_simple 32 refl n) ∙ ap (λ m. str_width false xs + m) (width_spaces n)
+after_spaces xs n = grind (arith, common_steps, str_width-append_simple, copies_pass, is_simple, width_spaces)
 
 -- what a space and more reads as is what as many spaces do
 space_and : (ys : List ℕ) → read_before false (32 ∷ ys) (0, plain) ≡ read_before false (spaces (str_width false ys + 1)) (0, plain)
 unfolding str_width
-space_and ys =
-    let r = read_before false ys (0, plain) in
-    step_space r.0 r.1 ∙ sym (read_spaces (r.0 + 1))
+space_and ys = grind (arith, common_steps, step_space, read_spaces)
 
 around_space : (xs ys : List ℕ) → str_width false (xs ++ 32 ∷ ys) ≡ str_width false xs + (str_width false ys + 1)
 unfolding str_width
@@ -64,14 +56,11 @@ around_space xs ys =
 
 chars_space : (bs : List ℕ) → chars (32 ∷ bs) ≡ 32 ∷ chars bs
 unfolding chars
-chars_space [] = refl
-chars_space (b ∷ bs) = refl
+chars_space bs = grind (arith, common_steps)
 
 -- a space between texts
 pub width_of-space : (a b : List ℕ) → IsUtf8 a → width_of (a ++ 32 ∷ b) ≡ width_of a + (1 + width_of b)
-width_of-space a b is =
-    ap (str_width false) (chars-append a (32 ∷ b) is ∙ ap (λ l. chars a ++ l) (chars_space b)) ∙ around_space (chars a) (chars b)
-    ∙ omega arith
+width_of-space a b is = grind (arith, common_steps, chars-append, chars_space, around_space)
 
 -- spaces are UTF-8
 pub utf8_spaces : (n : ℕ) → IsUtf8 (spaces n)
@@ -80,10 +69,7 @@ utf8_spaces (suc n) = IsUtf8-append (32 ∷ []) (spaces n) (IsUtf8-are_ascii (32
 
 -- spaces after a text
 pub width_of-after : (t : List ℕ) (n : ℕ) → IsUtf8 t → width_of (t ++ spaces n) ≡ width_of t + n
-width_of-after t n is =
-    ap (str_width false) (chars-append t (spaces n) is
-    ∙ ap (λ l. chars t ++ l) (chars-IsAscii (spaces n) (ascii_copies 32 n (omega arith))))
-    ∙ after_spaces (chars t) n
+width_of-after t n is = grind (arith, common_steps, chars-append, chars-IsAscii, ascii_copies, after_spaces)
 
 -- nothing has no width
 pub width_of-nil : width_of [] ≡ 0
@@ -105,9 +91,7 @@ one_line_spaces n = copies_pass is_no_feed 32 refl n
 
 -- a hyphen is one column wide
 pub width_of-hyphens : (n : ℕ) → width_of (replicate n 45) ≡ n
-width_of-hyphens n =
-    ap (str_width false) (chars-IsAscii (replicate n 45) (ascii_copies 45 n (omega arith)))
-    ∙ str_width-printable false (replicate n 45) (copies_pass (is_in_range 0x20 0x7E) 45 refl n) ∙ length-replicate n 45
+width_of-hyphens n = grind (arith, common_steps, chars-IsAscii, ascii_copies, str_width-printable, copies_pass, length-replicate)
 
 -- hyphens are UTF-8
 pub utf8_hyphens : (n : ℕ) → IsUtf8 (replicate n 45)

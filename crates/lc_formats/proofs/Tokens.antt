@@ -1,6 +1,7 @@
 -- The tokens of arrays and objects by their parts.
-use Rattle.std.proofs.Common.{◌≡◌, ℕ, Bool, if◌then◌else◌, List, [], ◌∷◌, ◌++◌, map, refl, sym, ◌∙◌, ap, append_assoc, append-nil, Some}
-use Rattle.std.proofs.lemmas.{Bool.false_from_ne_true, List.Concat.flat_map-append, Str.{IsUtf8-from_is_utf8, is_utf8-from_IsUtf8}}
+use Rattle.std.proofs.{Common.{arith, ◌≡◌, ℕ, Bool, if◌then◌else◌, List, [], ◌∷◌, ◌++◌, map, refl, ◌∙◌, ap, append_assoc, append-nil, Some}}
+use Rattle.std.proofs.{lemmas.{Grind.common_steps, Bool.false_from_ne_true, List.Concat.flat_map-append}}
+use Rattle.std.proofs.{lemmas.Str.{IsUtf8-from_is_utf8, is_utf8-from_IsUtf8}}
 use Rattle.std.specs.{List.flat_map, Str.{IsUtf8, is_utf8}}
 use Rattle.json.specs.{Json.{Json, string}, Token.{Token, key, begin_object, end_object, end_array}, Tree.{json_tokens, items_tokens}}
 use Rattle.json.specs.Tree.{members_tokens}
@@ -13,8 +14,7 @@ use Rattle.lc_formats.specs.JsonTokens.{members_tokens_of}
 pub array_tokens : {X : Type 0} (value : X → Json) (xs : List X)
     → items_tokens (items_with (map value xs)) ≡ flat_map (λ x. json_tokens (value x)) xs ++ end_array ∷ []
 array_tokens value [] = refl
-array_tokens value (x ∷ xs) =
-    ap (λ (ts : List Token). json_tokens (value x) ++ ts) (array_tokens value xs) ∙ simp append_assoc
+array_tokens value (x ∷ xs) = grind (arith, common_steps, append_assoc, array_tokens value xs)
 
 -- an object has the tokens of its members, and a bracket
 pub object_tokens : (ms : List Member) → members_tokens (members_with ms) ≡ members_tokens_of ms ++ end_object ∷ []
@@ -24,41 +24,29 @@ object_tokens (m ∷ ms) = ap (λ (ts : List Token). member_tokens m ++ ts) (obj
 -- two lists of members, appended in turn
 pub both_members : (text : List Token) (ms ns : List Member)
     → (text ++ members_tokens_of ms) ++ members_tokens_of ns ≡ text ++ members_tokens_of (ms ++ ns)
-both_members text ms ns =
-    append_assoc text (members_tokens_of ms) (members_tokens_of ns)
-    ∙ ap (λ (ts : List Token). text ++ ts) (sym (flat_map-append member_tokens ms ns))
+both_members text ms ns = grind (arith, common_steps, append_assoc, flat_map-append)
 
 -- four lists of members, appended in turn
 pub four_members : (text : List Token) (ks ms ns os : List Member)
     → (((text ++ members_tokens_of ks) ++ members_tokens_of ms) ++ members_tokens_of ns) ++ members_tokens_of os
     ≡ text ++ members_tokens_of (ks ++ (ms ++ (ns ++ os)))
-four_members text ks ms ns os =
-    both_members ((text ++ members_tokens_of ks) ++ members_tokens_of ms) ns os ∙ both_members (text ++ members_tokens_of ks) ms (ns ++ os)
-    ∙ both_members text ks (ms ++ (ns ++ os))
+four_members text ks ms ns os = grind (arith, common_steps, both_members)
 
 -- an object, appended in turn
 pub object_appended : (text : List Token) (ms : List Member)
     → ((text ++ begin_object ∷ []) ++ members_tokens_of ms) ++ end_object ∷ [] ≡ text ++ json_tokens (object_with ms)
-object_appended text ms =
-    append_assoc (text ++ begin_object ∷ []) (members_tokens_of ms) (end_object ∷ [])
-    ∙ append_assoc text (begin_object ∷ []) (members_tokens_of ms ++ end_object ∷ [])
-    ∙ ap (λ (ts : List Token). text ++ begin_object ∷ ts) (sym (object_tokens ms))
+object_appended text ms = grind (arith, common_steps, append_assoc, object_tokens)
 
 -- the values of a line, column by column
 pub line_tokens : (names : List (List ℕ)) (value : Column → ValueModel) (columns : List Column)
     → flat_map (λ c. members_tokens_of (value_members (column_word names c) (value c))) columns
     ≡ members_tokens_of (line_members names columns (map value columns))
 line_tokens names value [] = refl
-line_tokens names value (c ∷ cs) =
-    let own = value_members (column_word names c) (value c) in
-    ap (λ (ts : List Token). members_tokens_of own ++ ts) (line_tokens names value cs)
-    ∙ sym (flat_map-append member_tokens own (line_members names cs (map value cs)))
+line_tokens names value (c ∷ cs) = grind (arith, common_steps, flat_map-append, line_tokens names value cs)
 
 -- bytes that are a text
 pub text_tokens : (name bytes : List ℕ) → IsUtf8 bytes → member_tokens (bytes_member name bytes) ≡ member_tokens (name, string bytes)
-text_tokens name bytes is =
-    ap (λ b. member_tokens (if b then (name, string bytes) else (bytes_name name, array_with (map integer bytes))))
-    (is_utf8-from_IsUtf8 bytes is)
+text_tokens name bytes is = grind (arith, common_steps, is_utf8-from_IsUtf8)
 
 -- bytes that are none
 pub listed_tokens : (name bytes : List ℕ) → ¬ (IsUtf8 bytes)

@@ -6,7 +6,7 @@ use Rattle.lc_formats.specs.Columns.{CellModel, widths_of, line_in, lines_in, ru
 
 -- ---- the rows and their sums
 
--- the lines of a section, or the first line alone, without a word
+-- a section without its tag and without the names of attributes, and with all of its lines, or else with its first line alone
 abbrev pub shown_lines : Bool → SectionModel → SectionModel
 shown_lines all s = record { tag = None; attributes = []; columns = s.columns; lines = if all then s.lines else take 1 s.lines }
 

@@ -1,8 +1,8 @@
 //! The cells of a line in a human-readable table.
 
-ghost use Rattle.std.specs.Prelude.{◌≡◌, ◌<◌, ◌++◌, ◌∷◌, [], IfOk, OnOk, replicate, string_bytes};
+ghost use Rattle.std.specs.Prelude.{◌≡◌, ◌<◌, ◌++◌, IfOk, OnOk, replicate, string_bytes};
 ghost use Rattle.lc_formats.specs.Cells.{cell_at, cell_model, cell_of, cells_of, heading_cell, heading_cells, line_cells};
-ghost use Rattle.lc_formats.specs.Columns.{blanks_before, is_shown, text_before, width_at};
+ghost use Rattle.lc_formats.specs.Columns.{is_shown, text_before, width_at};
 ghost use Rattle.lc_formats.specs.Shares.{full_bar};
 ghost use Rattle.lc_sheet.specs.Sheets.{line_of};
 ghost use Rattle.lc_sheet.specs.Values.{value_model};
@@ -32,17 +32,6 @@ pub(crate) fn push_copies(text: &mut String, c: char, count: usize) -> Result<()
         rest -= 1;
     }
     Ok(())
-}
-
-/// Appends this many blanks if other cells follow in the line. Appends none at the end of a line.
-fn push_blanks(text: &mut String, count: usize, others: &[Cell<'_>]) -> Result<(), AllocError>
-    ensures { OnOk result (string_bytes text.new ≡ string_bytes text.old ++ blanks_before (cells_of others.now) count) }
-{
-    if others.is_empty() {
-        Ok(())
-    } else {
-        push_copies(text, ' ', count)
-    }
 }
 
 impl<'a> Cell<'a> {
@@ -114,7 +103,10 @@ impl<'a> Cell<'a> {
             Side::Left => {
                 let own = make_wide(made, self.bar, &self.value)?;
                 text.push_str(made.as_str())?;
-                push_blanks(text, width.saturating_sub(own), others)
+                if others.is_empty() {
+                    return Ok(());
+                }
+                push_copies(text, ' ', width.saturating_sub(own))
             }
             Side::Right => {
                 let own = make_wide(made, self.bar, &self.value)?;
@@ -123,22 +115,6 @@ impl<'a> Cell<'a> {
             }
         }
     }
-}
-
-fn push_headings<'a>(
-    cells: &mut Vec<Cell<'a>>,
-    attributes: &'a [AttributeColumn],
-    columns: &[Column],
-) -> Result<(), AllocError>
-    ensures { OnOk result (cells_of cells.new.items
-        ≡ cells_of cells.old.items ++ heading_cells attributes.entry.now columns.now) }
-{
-    let mut rest = columns;
-    'columns: while let Some((column, others)) = rest.split_first() {
-        cells.push(Cell::heading(attributes, *column))?;
-        rest = others;
-    }
-    Ok(())
 }
 
 /// Sets the cells to the headings of columns.
@@ -150,37 +126,9 @@ pub(crate) fn set_headings<'a>(
     ensures { OnOk result (cells_of cells.new.items ≡ heading_cells attributes.entry.now columns.now) }
 {
     cells.clear();
-    push_headings(cells, attributes, columns)
-}
-
-/// Appends the cell of a line in a column.
-fn push_cell<'l, L: Lines>(
-    cells: &mut Vec<Cell<'l>>,
-    line: &'l L::Line,
-    form: Form,
-    column: Column,
-    bar: u8,
-) -> Result<(), AllocError>
-    ensures { OnOk result (cells_of cells.new.items
-        ≡ cells_of cells.old.items ++ cell_of bar column (L.value_in form line.entry.now column) ∷ []) }
-{
-    cells.push(Cell::of::<L>(line, form, column, bar))?;
-    Ok(())
-}
-
-fn push_cells<'l, L: Lines>(
-    cells: &mut Vec<Cell<'l>>,
-    line: &'l L::Line,
-    form: Form,
-    columns: &[Column],
-    bar: u8,
-) -> Result<(), AllocError>
-    ensures { OnOk result (cells_of cells.new.items
-        ≡ cells_of cells.old.items ++ line_cells bar columns.now (line_of (L.value_in form) columns.now line.entry.now)) }
-{
     let mut rest = columns;
     'columns: while let Some((column, others)) = rest.split_first() {
-        push_cell::<L>(cells, line, form, *column, bar)?;
+        cells.push(Cell::heading(attributes, *column))?;
         rest = others;
     }
     Ok(())
@@ -198,5 +146,10 @@ pub(crate) fn set_cells<'l, L: Lines>(
         ≡ line_cells bar columns.now (line_of (L.value_in form) columns.now line.entry.now)) }
 {
     cells.clear();
-    push_cells::<L>(cells, line, form, columns, bar)
+    let mut rest = columns;
+    'columns: while let Some((column, others)) = rest.split_first() {
+        cells.push(Cell::of::<L>(line, form, *column, bar))?;
+        rest = others;
+    }
+    Ok(())
 }

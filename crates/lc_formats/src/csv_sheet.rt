@@ -33,34 +33,6 @@ fn push_value(fields: &mut Fields, value: Value<'_>) -> Result<(), AllocError>
     }
 }
 
-/// Appends the value of a line in a column as a field.
-#[inline(always)]
-fn push_field<L: Lines>(
-    fields: &mut Fields,
-    form: Form,
-    line: &L::Line,
-    column: Column,
-) -> Result<(), AllocError>
-    ensures { OnOk result (fields.new ≡ fields.old ++ field_of (L.value_in form line.now column) ∷ []) }
-{
-    let value = L::value(line, form, column);
-    push_value(fields, value)
-}
-
-fn push_fields<L: Lines>(
-    fields: &mut Fields,
-    form: Form,
-    line: &L::Line,
-    columns: &[Column],
-) -> Result<(), AllocError>
-    ensures { OnOk result (fields.new ≡ fields.old ++ map (λ column. field_of (L.value_in form line.now column)) columns.now) }
-{
-    for column in columns {
-        push_field::<L>(fields, form, line, *column)?;
-    }
-    Ok(())
-}
-
 fn set_fields<L: Lines>(
     fields: &mut Fields,
     form: Form,
@@ -70,19 +42,8 @@ fn set_fields<L: Lines>(
     ensures { OnOk result (fields.new ≡ map field_of (line_of (L.value_in form) columns.now line.now)) }
 {
     fields.clear();
-    push_fields::<L>(fields, form, line, columns)?;
-    Ok(())
-}
-
-fn push_names(
-    fields: &mut Fields,
-    attributes: &[AttributeColumn],
-    columns: &[Column],
-) -> Result<(), AllocError>
-    ensures { OnOk result (fields.new ≡ fields.old ++ map (header_field attributes.now) columns.now) }
-{
     for column in columns {
-        fields.push_name(column.name(attributes))?;
+        push_value(fields, L::value(line, form, *column))?;
     }
     Ok(())
 }
@@ -97,7 +58,9 @@ fn push_headings(
     ensures { OnOk result (text.new ≡ text.old ++ record_text (map (header_field attributes.now) columns.now)) }
 {
     fields.clear();
-    push_names(fields, attributes, columns)?;
+    for column in columns {
+        fields.push_name(column.name(attributes))?;
+    }
     text.push_record(fields)
 }
 

@@ -1,21 +1,11 @@
 //! Joining the bytes of a name with what is printed before and after them, in formats that programs read.
 
 ghost use Rattle.std.specs.Prelude.{◌≡◌, ◌++◌, IsTrue, OnOk};
-ghost use Rattle.lc_text.specs.Names.{line_end, name_model, named};
+ghost use Rattle.lc_text.specs.Names.{name_model, named};
 
 use crate::numbers::push_digits;
 use lc_text::Name;
 use std::alloc::AllocError;
-
-fn join_line(text: &mut Vec<u8>, line: Option<u32>) -> Result<(), AllocError>
-    ensures { OnOk result (text.new.items ≡ text.old.items ++ line_end line) }
-{
-    let Some(line) = line else {
-        return Ok(());
-    };
-    text.push(b':')?;
-    push_digits(text, u128::from(line))
-}
 
 /// Appends a name with what is printed before and after its bytes. The bytes are not escaped.
 pub(crate) fn join_name(text: &mut Vec<u8>, name: Name<'_>) -> Result<(), AllocError>
@@ -24,7 +14,11 @@ pub(crate) fn join_name(text: &mut Vec<u8>, name: Name<'_>) -> Result<(), AllocE
     text.extend_from_slice(name.front.as_bytes())?;
     text.extend_from_slice(name.bytes)?;
     text.extend_from_slice(name.end.as_bytes())?;
-    join_line(text, name.line)
+    let Some(line) = name.line else {
+        return Ok(());
+    };
+    text.push(b':')?;
+    push_digits(text, u128::from(line))
 }
 
 /// Returns whether nothing is printed before or after the bytes of a name. If so, callers use these bytes without a copy.

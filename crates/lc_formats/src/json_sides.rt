@@ -3,8 +3,7 @@
 ghost use Rattle.std.specs.Prelude.{◌≡◌, ◌++◌, OnOk};
 ghost use Rattle.json.specs.Tree.{json_tokens};
 ghost use Rattle.lc_sheet.specs.Sheets.{line_of};
-ghost use Rattle.lc_sheet.specs.Values.{value_model};
-ghost use Rattle.lc_formats.specs.JsonLines.{change_object, column_in, is_missing, lacks, lacks_in, members_in};
+ghost use Rattle.lc_formats.specs.JsonLines.{change_object, column_in, lacks, members_in};
 ghost use Rattle.lc_formats.specs.JsonLines.{part_members, side_value};
 ghost use Rattle.lc_formats.specs.JsonTokens.{members_tokens_of};
 
@@ -39,29 +38,14 @@ impl Part {
     }
 }
 
-fn is_missing(value: Value<'_>) -> bool
-    ensures { result ≡ is_missing (value_model value.entry) }
-{
-    matches!(value, Value::Missing | Value::Blank)
-}
-
-/// Returns whether a part of a line lacks the value in a column: the line has no value there, or the value belongs to another part.
-fn lacks_in<L: Lines>(part: Part, form: Form, column: Column, line: &L::Line) -> bool
-    ensures { result ≡ lacks_in (column_in part column) (L.value_in form line.now column) }
-{
-    match part.column(column) {
-        None => true,
-        Some(_) => is_missing(L::value(line, form, column)),
-    }
-}
-
 /// Returns whether a line has no value that belongs to this part.
 fn lacks<L: Lines>(part: Part, form: Form, columns: &[Column], line: &L::Line) -> bool
     ensures { result ≡ lacks part columns.now (line_of (L.value_in form) columns.now line.now) }
 {
     let mut rest = columns;
     'columns: while let Some((column, others)) = rest.split_first() {
-        if !lacks_in::<L>(part, form, *column, line) {
+        let is_own = part.column(*column).is_some();
+        if is_own && !matches!(L::value(line, form, *column), Value::Missing | Value::Blank) {
             return false;
         }
         rest = others;

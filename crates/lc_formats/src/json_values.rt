@@ -1,7 +1,6 @@
 //! Values of a sheet as JSON, and those of a line.
 
 ghost use Rattle.std.specs.Prelude.{◌≡◌, ◌++◌, OnOk};
-ghost use Rattle.lc_sheet.specs.ColumnWords.{column_word};
 ghost use Rattle.lc_sheet.specs.Sheets.{line_of};
 ghost use Rattle.lc_sheet.specs.Values.{value_model};
 ghost use Rattle.lc_formats.specs.JsonLines.{line_members, value_members};
@@ -37,21 +36,6 @@ pub(crate) fn write_value(
     Ok(())
 }
 
-#[inline(always)]
-fn write_column<L: Lines>(
-    text: &mut JsonText,
-    attributes: &[AttributeColumn],
-    form: Form,
-    column: Column,
-    line: &L::Line,
-) -> Result<(), AllocError>
-    ensures { OnOk result (text.new
-        ≡ text.old ++ members_tokens_of (value_members (column_word attributes.now column) (L.value_in form line.now column))) }
-{
-    let member = column.word(attributes);
-    write_value(text, member, &L::value(line, form, column))
-}
-
 /// Writes the members for the values of a line in each column.
 pub(crate) fn write_columns<L: Lines>(
     text: &mut JsonText,
@@ -64,7 +48,8 @@ pub(crate) fn write_columns<L: Lines>(
         ++ members_tokens_of (line_members attributes.now columns.now (line_of (L.value_in form) columns.now line.now))) }
 {
     for column in columns {
-        write_column::<L>(text, attributes, form, *column, line)?;
+        let member = column.word(attributes);
+        write_value(text, member, &L::value(line, form, *column))?;
     }
     Ok(())
 }

@@ -1,7 +1,7 @@
 //! The text of a sheet as Markdown, with tables of GitHub Flavored Markdown.
 
 ghost use Rattle.std.specs.Prelude.{◌≡◌, ◌++◌, IfOk, OnOk};
-ghost use Rattle.lc_formats.specs.MarkdownText.{counts_below, counts_with, lines_with, list_above, list_below, markdown_of};
+ghost use Rattle.lc_formats.specs.MarkdownText.{counts_below, lines_with, list_above, list_below, markdown_of};
 ghost use Rattle.lc_formats.specs.MarkdownText.{section_table, summary_with};
 
 use crate::markdown_line::{Weight, push_headings, push_line, push_values};
@@ -90,33 +90,6 @@ fn push_summary<R: Lines, T: Lines>(
     Ok(())
 }
 
-fn push_directories(
-    text: &mut Vec<u8>,
-    directories: u64,
-    made: &mut String,
-) -> Result<(), AllocError>
-    ensures { OnOk result (text.new.items ≡ text.old.items ++ counts_with directories None) }
-{
-    text.extend_from_slice(b"| directories |\n| ---: |\n")?;
-    push_values(text, &[Value::Number(u128::from(directories))], made)?;
-    Ok(())
-}
-
-fn push_both(
-    text: &mut Vec<u8>,
-    directories: u64,
-    entries: u64,
-    made: &mut String,
-) -> Result<(), AllocError>
-    ensures { OnOk result (text.new.items ≡ text.old.items ++ counts_with directories (Some entries)) }
-{
-    let directories = Value::Number(u128::from(directories));
-    let entries = Value::Number(u128::from(entries));
-    text.extend_from_slice(b"| directories | entries |\n| ---: | ---: |\n")?;
-    push_values(text, &[directories, entries], made)?;
-    Ok(())
-}
-
 /// Appends an empty line, the number of directories, and the number of their entries, if the sheet has them.
 fn push_counts(
     text: &mut Vec<u8>,
@@ -129,11 +102,14 @@ fn push_counts(
     let Some(directories) = directories else {
         return Ok(());
     };
-    text.extend_from_slice(b"\n")?;
-    match entries {
-        None => push_directories(text, directories, made),
-        Some(entries) => push_both(text, directories, entries, made),
-    }
+    let directories = Value::Number(u128::from(directories));
+    let Some(entries) = entries else {
+        text.extend_from_slice(b"\n| directories |\n| ---: |\n")?;
+        return push_values(text, &[directories], made);
+    };
+    let entries = Value::Number(u128::from(entries));
+    text.extend_from_slice(b"\n| directories | entries |\n| ---: | ---: |\n")?;
+    push_values(text, &[directories, entries], made)
 }
 
 /// Makes the text of a sheet as Markdown.

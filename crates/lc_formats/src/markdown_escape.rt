@@ -1,7 +1,7 @@
 //! Escaping texts in the cells of Markdown tables.
 
 ghost use Rattle.std.specs.Prelude.{◌≡◌, ◌++◌, OnOk};
-ghost use Rattle.lc_formats.specs.MarkdownCells.{begins_address, break_in, cell_byte, is_markup, markdown};
+ghost use Rattle.lc_formats.specs.MarkdownCells.{begins_address, cell_byte, is_markup, markdown};
 
 use std::alloc::AllocError;
 
@@ -35,17 +35,6 @@ fn begins_address(shown: &[u8]) -> bool
     shown.starts_with(b"www.") || shown.starts_with(b"://") || shown.starts_with(b"@")
 }
 
-/// Appends `<wbr>`, a tag that shows nothing, if the text `shown` begins like an address.
-fn push_break(text: &mut Vec<u8>, shown: &[u8]) -> Result<(), AllocError>
-    ensures { OnOk result (text.new.items ≡ text.old.items ++ break_in shown.now) }
-{
-    if begins_address(shown) {
-        text.extend_from_slice(b"<wbr>")
-    } else {
-        Ok(())
-    }
-}
-
 /// Appends a text as the text of a cell: no byte of it is markup, no address in it becomes a link, and no blank at its ends is dropped.
 ///
 /// GitHub looks for addresses with an `@` after it has resolved escapes and references, so only a tag keeps such addresses text.
@@ -56,7 +45,10 @@ pub(crate) fn push_markdown(text: &mut Vec<u8>, shown: &[u8]) -> Result<(), Allo
     let mut rest = shown;
     'bytes: while let Some((b, others)) = rest.split_first() {
         push_cell_byte(text, first || others.is_empty(), *b)?;
-        push_break(text, rest)?;
+        if begins_address(rest) {
+            // A tag that shows nothing.
+            text.extend_from_slice(b"<wbr>")?;
+        }
         rest = others;
         first = false;
     }

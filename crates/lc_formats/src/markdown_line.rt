@@ -2,7 +2,7 @@
 
 ghost use Rattle.std.specs.Prelude.{◌≡◌, ◌++◌, map, OnOk};
 ghost use Rattle.lc_formats.specs.Cells.{heading_value};
-ghost use Rattle.lc_formats.specs.MarkdownCells.{bold, rule_cell, value_cell, weighted};
+ghost use Rattle.lc_formats.specs.MarkdownCells.{bold, rule_cell, value_cell};
 ghost use Rattle.lc_formats.specs.MarkdownText.{headings_with, line_with, rule_with};
 ghost use Rattle.lc_sheet.specs.Sheets.{line_of};
 ghost use Rattle.lc_sheet.specs.Values.{value_model};
@@ -31,15 +31,6 @@ fn push_bold(text: &mut Vec<u8>, shown: &[u8]) -> Result<(), AllocError>
     text.extend_from_slice(b"**")
 }
 
-fn push_weighted(text: &mut Vec<u8>, weight: Weight, shown: &[u8]) -> Result<(), AllocError>
-    ensures { OnOk result (text.new.items ≡ text.old.items ++ weighted weight shown.now) }
-{
-    match weight {
-        Weight::Plain => push_markdown(text, shown),
-        Weight::Bold => push_bold(text, shown),
-    }
-}
-
 /// Appends a value and the bar that ends its cell.
 fn push_value(
     text: &mut Vec<u8>,
@@ -51,7 +42,10 @@ fn push_value(
 {
     make_value(made, FULL_BAR, &value)?;
     text.extend_from_slice(b" ")?;
-    push_weighted(text, weight, made.as_bytes())?;
+    match weight {
+        Weight::Plain => push_markdown(text, made.as_bytes())?,
+        Weight::Bold => push_bold(text, made.as_bytes())?,
+    }
     text.extend_from_slice(b" |")
 }
 
@@ -70,19 +64,6 @@ pub(crate) fn push_values(
     text.extend_from_slice(b"\n")
 }
 
-fn push_column<L: Lines>(
-    text: &mut Vec<u8>,
-    weight: Weight,
-    line: &L::Line,
-    form: Form,
-    column: Column,
-    made: &mut String,
-) -> Result<(), AllocError>
-    ensures { OnOk result (text.new.items ≡ text.old.items ++ value_cell weight (L.value_in form line.now column)) }
-{
-    push_value(text, weight, &L::value(line, form, column), made)
-}
-
 /// Appends a line of a table: the value in each column.
 pub(crate) fn push_line<L: Lines>(
     text: &mut Vec<u8>,
@@ -98,23 +79,10 @@ pub(crate) fn push_line<L: Lines>(
     text.extend_from_slice(b"|")?;
     let mut rest = columns;
     'columns: while let Some((column, others)) = rest.split_first() {
-        push_column::<L>(text, weight, line, form, *column, made)?;
+        push_value(text, weight, &L::value(line, form, *column), made)?;
         rest = others;
     }
     text.extend_from_slice(b"\n")
-}
-
-fn push_heading(
-    text: &mut Vec<u8>,
-    attributes: &[AttributeColumn],
-    column: Column,
-    made: &mut String,
-) -> Result<(), AllocError>
-    ensures { OnOk result (text.new.items
-        ≡ text.old.items ++ value_cell Weight.Plain (heading_value attributes.now column)) }
-{
-    let heading = column.heading(attributes);
-    push_value(text, Weight::Plain, &Value::Name(heading), made)
 }
 
 fn push_heading_line(
@@ -129,7 +97,8 @@ fn push_heading_line(
     text.extend_from_slice(b"|")?;
     let mut rest = columns;
     'columns: while let Some((column, others)) = rest.split_first() {
-        push_heading(text, attributes, *column, made)?;
+        let heading = Value::Name(column.heading(attributes));
+        push_value(text, Weight::Plain, &heading, made)?;
         rest = others;
     }
     text.extend_from_slice(b"\n")

@@ -2,8 +2,7 @@
 
 ghost use Rattle.std.specs.Prelude.{◌≡◌, ◌++◌, [], ◌∷◌, IfOk, OnOk, flat_map, string_bytes};
 ghost use Rattle.lc_formats.specs.Paths.{ended, has_no_feed, is_printed, path_in, paths_of, refusal, refusals, refused_lines};
-ghost use Rattle.lc_sheet.specs.Sheets.{line_of, lines_of};
-ghost use Rattle.lc_sheet.specs.Values.{value_model};
+ghost use Rattle.lc_sheet.specs.Sheets.{line_of};
 ghost use Rattle.lc_text.specs.Lines.{end_byte};
 
 use lc_sheet::{Column, Form, Lines, Section, Sheet, Value};
@@ -68,18 +67,6 @@ fn push_path(paths: &mut PathsText, end: PathEnd, path: &[u8]) -> Result<(), All
     push_refusal(&mut paths.refused, path)
 }
 
-/// Appends a value if it is a path.
-fn push_value(paths: &mut PathsText, end: PathEnd, value: Value<'_>) -> Result<(), AllocError>
-    ensures text { OnOk result (paths.new.text.items ≡ paths.old.text.items ++ ended end (path_in (value_model value.entry ∷ []))) }
-    ensures refused { OnOk result (string_bytes paths.new.refused
-        ≡ string_bytes paths.old.refused ++ refusals end (path_in (value_model value.entry ∷ []))) }
-{
-    match value {
-        Value::Path(path) => push_path(paths, end, path),
-        _ => Ok(()),
-    }
-}
-
 /// Appends the path that is the first value of a line.
 fn push_line<L: Lines>(
     paths: &mut PathsText,
@@ -96,7 +83,10 @@ fn push_line<L: Lines>(
     let Some((first, _)) = columns.split_first() else {
         return Ok(());
     };
-    push_value(paths, end, L::value(line, form, *first))
+    match L::value(line, form, *first) {
+        Value::Path(path) => push_path(paths, end, path),
+        _ => Ok(()),
+    }
 }
 
 /// Appends the paths of a section's lines.

@@ -1,9 +1,8 @@
 //! The lines of a section as text in human-readable columns.
 
-ghost use Rattle.std.specs.Prelude.{◌≡◌, ◌∷◌, ◌++◌, ◌==◌, length, OnOk, string_bytes};
-ghost use Rattle.lc_formats.specs.Cells.{heading_cells, section_cells};
-ghost use Rattle.lc_formats.specs.Columns.{lines_in, listing_in, widened};
-ghost use Rattle.lc_formats.specs.Shares.{full_bar};
+ghost use Rattle.std.specs.Prelude.{◌≡◌, ◌++◌, ◌==◌, length, OnOk, string_bytes};
+ghost use Rattle.lc_formats.specs.Cells.{section_cells};
+ghost use Rattle.lc_formats.specs.Columns.{lines_in, widened};
 ghost use Rattle.lc_formats.specs.TableText.{section_listing, shown_lines};
 
 use crate::cells::{Cell, set_cells, set_headings};
@@ -53,28 +52,6 @@ pub(crate) fn push_lines<'a, L: Lines>(
     Ok(())
 }
 
-/// Appends the headings and the lines of a section, and then an empty line. Each column is first made as wide as its widest cell.
-fn push_some<'a, L: Lines>(
-    widths: &mut Widths,
-    section: &Section<'a, L>,
-    cells: &mut Vec<Cell<'a>>,
-    text: &mut String,
-    made: &mut String,
-) -> Result<(), AllocError>
-    ensures { OnOk result (string_bytes text.new ≡ string_bytes text.old
-        ++ listing_in (widened widths.old (heading_cells section.now.attributes section.now.columns ∷ section_cells full_bar section.now))
-        (heading_cells section.now.attributes section.now.columns) (section_cells full_bar section.now)) }
-{
-    set_headings(cells, section.attributes(), section.columns())?;
-    widths.fit(cells, made)?;
-    fit_lines(widths, FULL_BAR, section, cells, made)?;
-    set_headings(cells, section.attributes(), section.columns())?;
-    widths.push_line(cells, text, made)?;
-    push_lines(widths, FULL_BAR, section, cells, text, made)?;
-    text.push_str("\n")?;
-    Ok(())
-}
-
 /// Returns whether a section has no lines.
 pub(crate) fn is_empty<L: Lines>(section: &Section<'_, L>) -> bool
     ensures { result ≡ (length section.now.lines == 0) }
@@ -97,7 +74,14 @@ pub(crate) fn push_listing<'a, L: Lines>(
     }
     let mut widths = Widths::new(alloc);
     let mut cells = Vec::new(alloc);
-    push_some(&mut widths, section, &mut cells, text, made)
+    set_headings(&mut cells, section.attributes(), section.columns())?;
+    widths.fit(&cells, made)?;
+    fit_lines(&mut widths, FULL_BAR, section, &mut cells, made)?;
+    set_headings(&mut cells, section.attributes(), section.columns())?;
+    widths.push_line(&cells, text, made)?;
+    push_lines(&widths, FULL_BAR, section, &mut cells, text, made)?;
+    text.push_str("\n")?;
+    Ok(())
 }
 
 /// Returns a section with all of its lines if `all` is true, and otherwise with the first line alone.

@@ -34,16 +34,6 @@ fn push_decimal(text: &mut String, n: u128) -> Result<(), AllocError>
     text.push_str(buffer.format(n))
 }
 
-/// Appends a share of this many tenths of a per cent, such as `12.5%`.
-fn push_tenths(text: &mut String, tenths: u128) -> Result<(), AllocError>
-    ensures { OnOk result (string_bytes text.new ≡ string_bytes text.old ++ share_word tenths) }
-{
-    push_decimal(text, tenths / 10)?;
-    text.push_str(".")?;
-    push_decimal(text, tenths % 10)?;
-    text.push_str("%")
-}
-
 fn push_blocks(text: &mut String, count: u128) -> Result<(), AllocError>
     ensures { OnOk result (string_bytes text.new ≡ string_bytes text.old ++ blocks count) }
 {
@@ -71,20 +61,15 @@ fn last_block(eighths: u128) -> &'static str
     }
 }
 
-/// Appends a bar whose length is this many eighths of a cell.
-fn push_eighths(text: &mut String, eighths: u128) -> Result<(), AllocError>
-    ensures { OnOk result (string_bytes text.new ≡ string_bytes text.old ++ bar eighths) }
-{
-    push_blocks(text, eighths / 8)?;
-    text.push_str(last_block(eighths % 8))
-}
-
 /// Appends the share of a part in a whole, in per cent.
 pub(crate) fn push_share(text: &mut String, part: u128, whole: u128) -> Result<(), AllocError>
     ensures { OnOk result (string_bytes text.new ≡ string_bytes text.old ++ share_word (rounded_parts 1000 part whole)) }
 {
     let tenths = rounded_parts(SHARE_PARTS, part, whole)?;
-    push_tenths(text, tenths)
+    push_decimal(text, tenths / 10)?;
+    text.push_str(".")?;
+    push_decimal(text, tenths % 10)?;
+    text.push_str("%")
 }
 
 /// Appends a bar for a part of a whole. The bar of the whole has this many cells.
@@ -97,5 +82,6 @@ pub(crate) fn push_bar(
     ensures { OnOk result (string_bytes text.new ≡ string_bytes text.old ++ bar (rounded_parts (8 * cells) part whole)) }
 {
     let eighths = rounded_parts(8 * u16::from(cells), part, whole)?;
-    push_eighths(text, eighths)
+    push_blocks(text, eighths / 8)?;
+    text.push_str(last_block(eighths % 8))
 }

@@ -184,8 +184,8 @@ fn push_list<L: Lines>(
 /// The lists of files, of skipped entries and of errors come first. The rows, the sums over the rows and the number of directories come
 /// last, because a terminal shows the end of a long text. Paths are escaped as [`push_visible`](lc_text::push_visible) escapes them.
 ///
-/// Bars in the last column of rows have at most 20 cells. They are shorter in a table that would be wider than 80 columns, and the column is
-/// dropped if there is no room for 5 cells. Names and paths are never cut.
+/// Bars in the last column of rows have at most 20 cells. They are shorter in a table that would be wider than 80 columns, and the column
+/// is dropped if there is no room for 5 cells. Names and paths are never cut.
 pub fn table_text<R: Lines, T: Lines, F: Lines, S: Lines, E: Lines>(
     alloc: Global,
     sheet: &Sheet<'_, R, T, F, S, E>,

@@ -4,7 +4,7 @@ ghost use Rattle.std.specs.Prelude.{◌≡◌, ◌++◌, OnOk, IfOk, option_map}
 ghost use Rattle.std.specs.List.{flat_map};
 ghost use Rattle.lc_sheet.specs.Sheets.{line_of, lines_of};
 ghost use Rattle.lc_sheet.specs.Values.{value_model};
-ghost use Rattle.lc_formats.specs.Tsv.{field_of, header_field, header_line, list_lines, number_line, section_lines, tsv_of, values_line};
+ghost use Rattle.lc_formats.specs.Tsv.{field_of, header_line, list_lines, number_line, section_lines, tsv_of, values_line};
 ghost use Rattle.lc_formats.specs.TsvParts.{after_tab};
 
 use crate::numbers::push_digits;
@@ -140,21 +140,6 @@ fn push_list<L: Lines>(text: &mut Vec<u8>, list: &Option<Section<'_, L>>) -> Res
     }
 }
 
-fn push_names(
-    text: &mut Vec<u8>,
-    attributes: &[AttributeColumn],
-    columns: &[Column],
-) -> Result<(), AllocError>
-    ensures { OnOk result (text.new.items
-        ≡ text.old.items ++ flat_map (λ column. after_tab (header_field attributes.now column)) columns.now) }
-{
-    for column in columns {
-        text.extend_from_slice(b"\t")?;
-        push_name(text, column.name(attributes))?;
-    }
-    Ok(())
-}
-
 fn push_header(
     text: &mut Vec<u8>,
     attributes: &[AttributeColumn],
@@ -166,7 +151,10 @@ fn push_header(
         return text.extend_from_slice(b"\n");
     };
     push_name(text, first.name(attributes))?;
-    push_names(text, attributes, rest)?;
+    for column in rest {
+        text.extend_from_slice(b"\t")?;
+        push_name(text, column.name(attributes))?;
+    }
     text.extend_from_slice(b"\n")?;
     Ok(())
 }

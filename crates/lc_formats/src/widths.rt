@@ -1,9 +1,9 @@
 //! The widths of columns. Each padded column is as wide as its widest cell.
 
-ghost use Rattle.std.specs.Prelude.{◌≡◌, ◌≤◌, ◌++◌, ◌-◌, [], length, replicate, slice_index, IfOk, OnOk, string_bytes};
+ghost use Rattle.std.specs.Prelude.{◌≡◌, ◌≤◌, ◌++◌, ◌-◌, [], length, slice_index, IfOk, OnOk, string_bytes};
 ghost use Rattle.lc_formats.specs.BarCells.{bar_cells, but_last, room_after, ruled};
 ghost use Rattle.lc_formats.specs.Cells.{cells_of};
-ghost use Rattle.lc_formats.specs.Columns.{cell_widths, gap, gap_width, line_in, line_width, rule_in, shown_cells, wider};
+ghost use Rattle.lc_formats.specs.Columns.{cell_widths, gap, gap_width, line_in, rule_in, shown_cells, wider};
 ghost use Rattle.lc_formats.specs.Widening.{with_width};
 
 use crate::cells::{Cell, push_copies};
@@ -40,16 +40,6 @@ fn shown_cells<'c, 'a>(
         count -= 1;
     }
     Ok(&[])
-}
-
-fn push_gap(text: &mut String, others: &[Cell<'_>]) -> Result<(), AllocError>
-    ensures { OnOk result (string_bytes text.new ≡ string_bytes text.old ++ gap (cells_of others.now)) }
-{
-    if others.is_empty() {
-        Ok(())
-    } else {
-        text.push_str("  ")
-    }
 }
 
 /// Returns the width of the gap before these columns.
@@ -135,7 +125,7 @@ impl Widths {
         for (column, cell) in shown.iter().enumerate() {
             let others = &shown[column + 1..];
             cell.push_before(others, self.width(column), text, made)?;
-            push_gap(text, others)?;
+            text.push_str(if others.is_empty() { "" } else { "  " })?;
         }
         text.push_str("\n")
     }

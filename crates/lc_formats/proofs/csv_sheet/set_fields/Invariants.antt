@@ -1,6 +1,6 @@
 use Rattle.std.proofs.Common.{◌≡◌, ◌++◌, map, take}
 use Rattle.lc_formats.specs.Csv.{field_of}
-use Rattle.lc_formats.proofs.csv_sheet.push_fields.Given as goal
+use Rattle.lc_formats.proofs.csv_sheet.set_fields.Given as goal
 
 abbrev pub invariant-loop-column : goal.invariant-loop-column
 invariant-loop-column g l =

@@ -1,7 +1,7 @@
 use Rattle.std.proofs.Common.{◌≡◌, ◌++◌, length}
 use Rattle.lc_sheet.specs.Sheets.{line_of}
 use Rattle.lc_formats.specs.Cells.{cells_of, line_cells}
-use Rattle.lc_formats.proofs.cells.push_cells.Given as goal
+use Rattle.lc_formats.proofs.cells.set_cells.Given as goal
 
 abbrev pub invariant-columns : goal.invariant-columns
 invariant-columns g l =

@@ -1,6 +1,6 @@
 use Rattle.std.proofs.Common.{◌≡◌, ◌++◌, length}
 use Rattle.lc_formats.specs.Cells.{cells_of, heading_cells}
-use Rattle.lc_formats.proofs.cells.push_headings.Given as goal
+use Rattle.lc_formats.proofs.cells.set_headings.Given as goal
 
 abbrev pub invariant-columns : goal.invariant-columns
 invariant-columns l =
