@@ -116,7 +116,7 @@ module _ (part others : List Report) (one r : Report) (first : IsJoined part one
       (all_of_parts (λ x. x.lists.files) (ap (λ (l : ReportLists). l.files) first.lists))
       (all_of_parts (λ x. x.lists.left_out) (ap (λ (l : ReportLists). l.left_out) first.lists))
 
-  -- a list that each has is had by the first
+  -- if each report has a list, the first report has it
   wanted_of_one : (p : Report → Bool) (b : Bool) → b ≡ list_all p (one ∷ others) → b ≡ true → p one ≡ true
   wanted_of_one p b same wanted = left_of (p one) (list_all p others) (sym same ∙ wanted)
     where

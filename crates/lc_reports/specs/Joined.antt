@@ -76,9 +76,9 @@ pub record IsUnited {X : Type 0} (cmp : X → X → Ordering) (xs united : List 
   pub given : (x : X) → Contains united x → Contains xs x
   pub order : IsStrictlySortedBy cmp united
 
--- the joined report has a row for each key, with the sums over all rows that have the key; the columns that each report has; the sums of
--- all numbers; each error once; and if each report has these lists, all files, in the order of their paths, and each skipped entry once, in
--- order
+-- the joined report has a row for each key, with the sums over all rows that have the key. It has the columns that each report has, the
+-- sums of all numbers, and each error once, in order. If each report lists files, it has all files, in the order of their paths. If each
+-- report lists skipped entries, it has each of them once, in order.
 pub record IsJoined (rs : List Report) (r : Report) : Type 0 where
   pub rows : AddsUp (all_rows rs) r.rows.items
   pub columns : r.columns ≡ shared_columns rs

@@ -63,8 +63,8 @@ fn join<'n>(alloc: Global, needs: Needs, parts: Vec<Part<'n>>) -> Result<Report,
 
 /// Sums reports, or finds out why they can't be summed.
 ///
-/// The sum is the report that [`joined`] makes of all reports, with only the lists that are needed. A table of the sum must group rows only
-/// by the columns of the sum, since the rows of some report have placeholders in the others.
+/// The sum is the report that [`joined`] makes of all reports, with only the lists that are needed. Of `ext`, `text` and `eol`, a table of
+/// the sum must group rows only by columns of the sum. In the other columns, the rows of some report have placeholders.
 ///
 /// The function looks for errors other than `Memory` in the order of the variants of [`SumFault`]. It tests all reports for one error
 /// before it tests any report for the next error in this order. For example, it refuses a report without a needed column before a report

@@ -16,7 +16,7 @@ only_ignored Ignored e = refl
 only_ignored Included e = absurd (cc)
 only_ignored NoRule e = absurd (cc)
 
--- of what decides, where that ignores
+-- if what was found ignores a path, it is a rule, and the verdict by this rule alone is that the path is ignored
 by_ignored : (found : Option (RuleSource × RuleModel)) → is_ignored (verdict_from found) ≡ true
     → (rule : RuleModel) × (option_map (λ r. r.1) found ≡ Some rule) × (verdict_by rule ≡ Ignored)
 by_ignored None e = absurd (cc)

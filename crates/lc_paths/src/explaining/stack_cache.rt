@@ -68,7 +68,7 @@ impl StackCache {
     }
 
     /// Finds the stack of a directory, if it is cached and the directory is above the path.
-    fn to<'p>(&self, directory: &[u8], path: &'p [u8]) -> Option<Near<'p>>
+    fn stack_of<'p>(&self, directory: &[u8], path: &'p [u8]) -> Option<Near<'p>>
         ensures { IfSome result (λ near. StandsBelow (stack_at self.now near.at) path.now near.rest.now) }
     {
         let Some(at) = self.places.get(directory) else {
@@ -91,11 +91,11 @@ impl StackCache {
         let mut above = path;
         'names: while let Some(slash) = memrchr(b'/', above) {
             above = &above[..slash];
-            if let Some(near) = self.to(above, path) {
+            if let Some(near) = self.stack_of(above, path) {
                 return Some(near);
             }
         }
-        self.to(&[], path)
+        self.stack_of(&[], path)
     }
 
     /// Returns the last directory of the stack with this number.
