@@ -1,6 +1,6 @@
 -- Lists that were read value by value.
-use Rattle.std.proofs.Common.{◌≡◌, ◌∙◌, ℕ, List, [], ◌∷◌, ◌++◌, refl, sym, ap, append_assoc, append-nil, Some}
-use Rattle.std.proofs.lemmas.List.Concat.{flat_map-append}
+use Rattle.std.proofs.Common.{arith, ◌≡◌, ◌∙◌, ℕ, List, [], ◌∷◌, ◌++◌, refl, sym, ap, append_assoc, append-nil, Some}
+use Rattle.std.proofs.lemmas.{Grind.common_steps, List.Concat.flat_map-append}
 use Rattle.std.specs.List.{flat_map}
 use Rattle.json.specs.{Json.{Json, array, value, after_end_array}, Token.{Token, begin_array, end_array}, Tree.{json_tokens, items_tokens}}
 use Rattle.json.specs.Value.{items_of}
@@ -26,9 +26,7 @@ pub record SoFar {L : Type 0} (Says : List Member → L → Type 0) (start now :
 
 tokens_of_items : (js : List Json) → items_tokens (items_of js) ≡ flat_map json_tokens js ++ end_array ∷ []
 tokens_of_items [] = refl
-tokens_of_items (j ∷ js) =
-    ap (λ (ts : List Token). json_tokens j ++ ts) (tokens_of_items js)
-    ∙ sym (append_assoc (json_tokens j) (flat_map json_tokens js) (end_array ∷ []))
+tokens_of_items (j ∷ js) = grind (arith, common_steps, append_assoc, tokens_of_items js)
 
 module _ {L : Type 0} (Says : List Member → L → Type 0) where
   pub one_more : (start now new : List Token) (lines : List L) (l : L) → SoFar Says start now lines → BeginsWith (IsLineOf Says) now new l

@@ -1,7 +1,7 @@
 -- The members of an object that is read member by member.
-use Rattle.std.proofs.Common.{◌≡◌, ◌≢◌, ◌∙◌, ℕ, Bool, true, false, cond, List, [], ◌∷◌, ◌++◌, refl, sym, ap, subst, append_assoc, Option}
-use Rattle.std.proofs.{Common.append-nil, lemmas.List.Concat.flat_map-append}
-use Rattle.std.proofs.{Common.{Some, None, option_map, inl, inr}, lemmas.{Slice.Eq.bytes_eq-Decides, Bool.false_from_ne_true}}
+use Rattle.std.proofs.Common.{arith, ◌≡◌, ◌≢◌, ◌∙◌, ℕ, Bool, true, false, cond, List, [], ◌∷◌, ◌++◌, refl, sym, ap, subst, append_assoc}
+use Rattle.std.proofs.{Common.{Option, append-nil, Some, None, option_map, inl, inr}, lemmas.Grind.common_steps}
+use Rattle.std.proofs.lemmas.{List.Concat.flat_map-append, Slice.Eq.bytes_eq-Decides, Bool.false_from_ne_true}
 use Rattle.std.specs.{Borrow.Bor, Str.bytes_eq, Global.Global, Prelude.{◌⊎◌, OnOk, is_some, Result, Ok, Err, Vec}, List.flat_map}
 use Rattle.lc_level.specs.{FaultLines.FaultLineModel, Level.{FileLineModel, SkippedLineModel}}
 use Rattle.json.specs.{Json.{Json, skip_value, value, read_key}, Token.{Token, key, begin_object, end_object}, Tree.json_tokens}
@@ -16,11 +16,7 @@ use Rattle.lc_reading.proofs.WordTables.{IsIn, value_in, value_names}
 use Rattle.lc_reading.specs.declared.member_name.MemberName.TheVariants as name
 
 pub value_skipped : (d : ℕ) (old new : List Token) → skip_value d old ≡ Some new → IsPassed old new
-value_skipped d old new e = let j = left_some (value d old) new e in record {
-  value = j.0;
-  tokens_are = value-json_tokens_back d old new
-      j.0 j.1;
-}
+value_skipped d old new e = grind (arith, common_steps, left_some, value-json_tokens_back)
 
 pub key_taken : (k : Option (List ℕ)) (old new : List Token) → read_key old ≡ Some (k, new) → old ≡ key_token k ∷ new
 key_taken k old new e = read_key_is old k new e
@@ -28,8 +24,7 @@ key_taken k old new e = read_key_is old k new e
 -- ---- one member more
 
 more_at : (n : List ℕ) (b : Bool) (j : Json) (xs ys zs : List Json) → xs ≡ ys ++ zs → cond b (j ∷ xs) xs ≡ cond b (j ∷ ys) ys ++ zs
-more_at n true j xs ys zs e = ap (λ (s : List Json). j ∷ s) e
-more_at n false j xs ys zs e = e
+more_at n b j xs ys zs e = grind (arith, common_steps)
 
 values_more : (n : List ℕ) (ms : List Member) (k : List ℕ) (j : Json)
     → values_at n (ms ++ (k, j) ∷ []) ≡ values_at n ms ++ cond (bytes_eq k n) (j ∷ []) []
@@ -37,8 +32,7 @@ values_more n [] k j = refl
 values_more n (m ∷ ms) k j = more_at n (bytes_eq m.0 n) m.1 _ _ _ (values_more n ms k j)
 
 append-none : (xs : List Json) → xs ++ [] ≡ xs
-append-none [] = refl
-append-none (x ∷ xs) = ap (λ (s : List Json). x ∷ s) (append-none xs)
+append-none xs = grind (arith, common_steps)
 
 kept : (n : List ℕ) (ms : List Member) (k : List ℕ) (j : Json) → bytes_eq k n ≡ false → values_at n (ms ++ (k, j) ∷ []) ≡ values_at n ms
 kept n ms k j e = values_more n ms k j ∙ ap (λ b. values_at n ms ++ cond b (j ∷ []) []) e ∙ append-none (values_at n ms)
@@ -63,21 +57,17 @@ abbrev Apart : List ℕ → Type 0
 Apart k = (n : MemberName) → is_value n ≡ true → bytes_eq k (member_name n) ≡ false
 
 apart : (l : List ℕ) → AllOf (λ n. bytes_eq l (member_name n) ≡ false) value_names → (k : List ℕ) → k ≡ l → Apart k
-apart l all k e n is =
-    ap (λ (s : List ℕ). bytes_eq s (member_name n)) e ∙ each_of (λ n. bytes_eq l (member_name n) ≡ false) value_names all n (value_in n is)
+apart l all k e = grind (arith, common_steps, each_of, value_names, value_in)
 
 module _ {L : Type 0} (Says : List Member → L → Type 0) (n : MemberName) (ms : List Member) (k : List ℕ) (j : Json) where
   lines_kept : (o : Option (List L)) → bytes_eq k (member_name n) ≡ false → MayHaveLines Says n ms o
       → MayHaveLines Says n (ms ++ (k, j) ∷ []) o
-  lines_kept None e is = kept (member_name n) ms k j e ∙ is
-  lines_kept (Some ls) e is = record { value = is.value; has = kept (member_name n) ms k j e ∙ is.has; list = is.list }
+  lines_kept o e is = grind (arith, common_steps, kept)
 
   lines_filled : (o : Option (List L)) (ls : List L) → o ≡ None → bytes_eq k (member_name n) ≡ true → MayHaveLines Says n ms o
       → IsListOf Says j ls
       → MayHaveLines Says n (ms ++ (k, j) ∷ []) (Some ls)
-  lines_filled o ls none e is list =
-      let lacks : Lacks n ms = subst (MayHaveLines Says n ms) none is in
-      record { value = j; has = added (member_name n) ms k j e ∙ ap (λ (s : List Json). s ++ j ∷ []) lacks; list = list }
+  lines_filled o ls none e is list = grind (arith, common_steps, added)
 
 equal_to : (k l : List ℕ) → k ≡ l → bytes_eq k l ≡ true
 equal_to k l e = (bytes_eq-Decides k l).1 e
@@ -89,8 +79,7 @@ not_equal : (k l : List ℕ) → k ≢ l → bytes_eq k l ≡ false
 not_equal k l differ = false_from_ne_true _ (λ e. differ ((bytes_eq-Decides k l).0 e))
 
 pub none_if : {A : Type 0} (o : Option A) → is_some o ≡ false → o ≡ None
-none_if None e = refl
-none_if (Some a) e = absurd (cc)
+none_if o e = grind (arith, common_steps)
 
 -- ---- one list more, or another member
 
@@ -105,11 +94,7 @@ Step {L} Says n k j old new =
 
 stepped : {L : Type 0} (Says : List Member → L → Type 0) (n : MemberName) (ms : List Member) (k : List ℕ) (j : Json)
     (old new : Option (List L)) → Step Says n k j old new → MayHaveLines Says n ms old → MayHaveLines Says n (ms ++ (k, j) ∷ []) new
-stepped Says n ms k j old new (inl kept) is =
-    subst (MayHaveLines Says n (ms ++ (k, j) ∷ [])) (sym kept.1) (lines_kept Says n ms k j old kept.0 is)
-stepped Says n ms k j old new (inr filled) is =
-    subst (MayHaveLines Says n (ms ++ (k, j) ∷ [])) (sym filled.2.1)
-    (lines_filled Says n ms k j old filled.2.0 filled.0 filled.1 is filled.2.2)
+stepped Says n ms k j old new is so = grind (arith, common_steps, kept, lines_kept, lines_filled)
 
 -- a member was read: each list takes its step, and the values are those of the members
 member_taken : (attributes : List (List ℕ)) (k : List ℕ) (old new : Object) (before after : List Token) (j : Json)
@@ -120,17 +105,7 @@ member_taken : (attributes : List (List ℕ)) (k : List ℕ) (old new : Object) 
     (items new.files)
     → Step IsSkippedOf name.Left k j (items old.skipped) (items new.skipped)
     → Step IsFaultOf name.Faults k j (items old.faults) (items new.faults) → TakesMember attributes k old new before after
-member_taken attributes k old new before after j tokens values rows files skipped faults = record {
-  value = j;
-  tokens_are = tokens;
-  adds = λ ms o. record {
-    values = λ n is. values ms n is (o.values n is);
-    rows = stepped IsRowOf name.Rows ms k j (items old.rows) (items new.rows) rows o.rows;
-    files = stepped (IsFileOf attributes) name.Files ms k j (items old.files) (items new.files) files o.files;
-    skipped = stepped IsSkippedOf name.Left ms k j (items old.skipped) (items new.skipped) skipped o.skipped;
-    faults = stepped IsFaultOf name.Faults ms k j (items old.faults) (items new.faults) faults o.faults;
-  };
-}
+member_taken attributes k old new before after j tokens values rows files skipped faults = grind (arith, common_steps, stepped)
 
 -- a list was read
 module _ {L : Type 0} (Says : List Member → L → Type 0) (n : MemberName) (k : List ℕ) (e : k ≡ member_name n)
@@ -147,49 +122,25 @@ pub rows_filled : (attributes : List (List ℕ)) (k : List ℕ) → k ≡ member
     (Vec ReadRow Global)) (before after : List Token)
     → Fills IsRowOf old.rows rows before after → TakesMember attributes k old (record old { rows = rows }) before after
 rows_filled attributes k e old rows before after f =
-    member_taken attributes k old (record old { rows = rows }) before after f.begins.value f.begins.tokens_are
-    (values_kept k (members_of old.values.items) f.begins.value
-    (apart (member_name name.Rows) (refl, (refl, (refl, (refl, (refl, (refl, tt)))))) k e))
-    (list_filled IsRowOf name.Rows k e old.rows rows before after f)
-    (inl (other_than k (member_name name.Rows) (member_name name.Files) e refl, refl))
-    (inl (other_than k (member_name name.Rows) (member_name name.Left) e refl, refl))
-    (inl (other_than k (member_name name.Rows) (member_name name.Faults) e refl, refl))
+    grind (arith, common_steps, member_taken, values_kept, apart, list_filled, other_than)
 
 pub files_filled : (attributes : List (List ℕ)) (k : List ℕ) → k ≡ member_name name.Files → (old : Object) (files : Option
     (Vec FileLineModel Global)) (before after : List Token)
     → Fills (IsFileOf attributes) old.files files before after → TakesMember attributes k old (record old { files = files }) before after
 files_filled attributes k e old files before after f =
-    member_taken attributes k old (record old { files = files }) before after f.begins.value f.begins.tokens_are
-    (values_kept k (members_of old.values.items) f.begins.value
-    (apart (member_name name.Files) (refl, (refl, (refl, (refl, (refl, (refl, tt)))))) k e))
-    (inl (other_than k (member_name name.Files) (member_name name.Rows) e refl, refl))
-    (list_filled (IsFileOf attributes) name.Files k e old.files files before after f)
-    (inl (other_than k (member_name name.Files) (member_name name.Left) e refl, refl))
-    (inl (other_than k (member_name name.Files) (member_name name.Faults) e refl, refl))
+    grind (arith, common_steps, member_taken, values_kept, apart, other_than, list_filled)
 
 pub skipped_filled : (attributes : List (List ℕ)) (k : List ℕ) → k ≡ member_name name.Left → (old : Object) (skipped : Option
     (Vec SkippedLineModel Global)) (before after : List Token)
     → Fills IsSkippedOf old.skipped skipped before after → TakesMember attributes k old (record old { skipped = skipped }) before after
 skipped_filled attributes k e old skipped before after f =
-    member_taken attributes k old (record old { skipped = skipped }) before after f.begins.value f.begins.tokens_are
-    (values_kept k (members_of old.values.items) f.begins.value
-    (apart (member_name name.Left) (refl, (refl, (refl, (refl, (refl, (refl, tt)))))) k e))
-    (inl (other_than k (member_name name.Left) (member_name name.Rows) e refl, refl))
-    (inl (other_than k (member_name name.Left) (member_name name.Files) e refl, refl))
-    (list_filled IsSkippedOf name.Left k e old.skipped skipped before after f)
-    (inl (other_than k (member_name name.Left) (member_name name.Faults) e refl, refl))
+    grind (arith, common_steps, member_taken, values_kept, apart, other_than, list_filled)
 
 pub faults_filled : (attributes : List (List ℕ)) (k : List ℕ) → k ≡ member_name name.Faults
     → (old : Object) (faults : Option (Vec FaultLineModel Global)) (before after : List Token)
     → Fills IsFaultOf old.faults faults before after → TakesMember attributes k old (record old { faults = faults }) before after
 faults_filled attributes k e old faults before after f =
-    member_taken attributes k old (record old { faults = faults }) before after f.begins.value f.begins.tokens_are
-    (values_kept k (members_of old.values.items) f.begins.value
-    (apart (member_name name.Faults) (refl, (refl, (refl, (refl, (refl, (refl, tt)))))) k e))
-    (inl (other_than k (member_name name.Faults) (member_name name.Rows) e refl, refl))
-    (inl (other_than k (member_name name.Faults) (member_name name.Files) e refl, refl))
-    (inl (other_than k (member_name name.Faults) (member_name name.Left) e refl, refl))
-    (list_filled IsFaultOf name.Faults k e old.faults faults before after f)
+    grind (arith, common_steps, member_taken, values_kept, apart, other_than, list_filled)
 
 same_rest : (xs ys : List Json) (b : Bool) (j : Json) → xs ≡ ys → xs ++ cond b (j ∷ []) [] ≡ ys ++ cond b (j ∷ []) []
 same_rest xs ys b j e = ap (λ (s : List Json). s ++ cond b (j ∷ []) []) e
@@ -202,8 +153,7 @@ lent_more (w ∷ vs) v = ap (λ (s : List Member). (w.0.now, value_view w.1) ∷
 -- a list's name is that of no value
 list_apart : (l : List ℕ) → AllOf (λ n. bytes_eq (member_name n) l ≡ false) value_names → (n : MemberName) → is_value n ≡ true
     → (k : List ℕ) → k ≡ member_name n → bytes_eq k l ≡ false
-list_apart l all n is k e =
-    ap (λ (s : List ℕ). bytes_eq s l) e ∙ each_of (λ n. bytes_eq (member_name n) l ≡ false) value_names all n (value_in n is)
+list_apart l all n is k e = grind (arith, common_steps, each_of, value_names, value_in)
 
 -- a member that is no list was read
 pub small_taken : (attributes : List (List ℕ)) (n : MemberName) → is_value n ≡ true → (k : List ℕ) → k ≡ member_name n → (old : Object)
@@ -242,9 +192,7 @@ member_tokens m = key m.0 ∷ json_tokens m.1
 
 tokens_of_members : (ms : List Member) → members_tokens (members_with ms) ≡ flat_map member_tokens ms ++ end_object ∷ []
 tokens_of_members [] = refl
-tokens_of_members (m ∷ ms) =
-    ap (λ (ts : List Token). key m.0 ∷ (json_tokens m.1 ++ ts)) (tokens_of_members ms)
-    ∙ sym (append_assoc (member_tokens m) (flat_map member_tokens ms) (end_object ∷ []))
+tokens_of_members (m ∷ ms) = grind (arith, common_steps, append_assoc, tokens_of_members ms)
 
 pub members_none : (attributes : List (List ℕ)) (o : Object) (start : List Token) → IsObjectOf attributes [] o
     → MembersSoFar attributes o start start
@@ -253,28 +201,13 @@ members_none attributes o start none = record { members = []; tokens_are = refl;
 pub member_more : (attributes : List (List ℕ)) (old new : Object) (start now between after : List Token) (k : List ℕ)
     → MembersSoFar attributes old start now → now ≡ key k ∷ between → TakesMember attributes k old new between after
     → MembersSoFar attributes new start after
-member_more attributes old new start now between after k far next takes = record {
-  members = far.members ++ (k, takes.value) ∷ [];
-  tokens_are = far.tokens_are
-      ∙ ap (λ (ts : List Token). flat_map member_tokens far.members ++ ts) (next ∙ ap (λ (ts : List Token). key k ∷ ts) takes.tokens_are)
-      ∙ sym (append_assoc (flat_map member_tokens far.members) (member_tokens (k, takes.value)) after)
-      ∙ ap (λ (ts : List Token). (flat_map member_tokens far.members ++ ts) ++ after) (sym (append-nil (member_tokens (k, takes.value))))
-      ∙ ap (λ (ts : List Token). ts ++ after) (sym (flat_map-append member_tokens far.members ((k, takes.value) ∷ [])));
-  is = takes.adds far.members far.is;
-}
+member_more attributes old new start now between after k far next takes =
+    grind (arith, common_steps, append_assoc, append-nil, flat_map-append)
 
 pub all_members_read : (attributes : List (List ℕ)) (o : Object) (start now after : List Token) → MembersSoFar attributes o start now
     → now ≡ end_object ∷ after
     → TakesObject attributes o (begin_object ∷ start) after
-all_members_read attributes o start now after far ended = record {
-  members = far.members;
-  tokens_are = ap (λ (ts : List Token). begin_object ∷ ts) (far.tokens_are
-      ∙ ap (λ (ts : List Token). flat_map member_tokens far.members ++ ts) ended
-      ∙ sym (append_assoc (flat_map member_tokens far.members) (end_object ∷ []) after)
-      ∙ ap (λ (ts : List Token). ts ++ after) (sym (tokens_of_members far.members)));
-  is = far.is;
-}
+all_members_read attributes o start now after far ended = grind (arith, common_steps, append_assoc, tokens_of_members)
 
 pub on_ok : {A E : Type 0} {P Q : Type 0} (r : Result A E) → (P → Q) → OnOk r P → OnOk r Q
-on_ok (Ok a) f p = f p
-on_ok (Err e) f p = p
+on_ok r f p = grind (arith, common_steps)

@@ -1,21 +1,19 @@
 -- The report that is made of an object's members.
-use Rattle.std.proofs.Common.{◌≡◌, ◌≢◌, ◌∙◌, ◌⊎◌, inl, inr, ℕ, Bool, true, false, List, [], ◌∷◌, map, refl, sym, ap, subst, Option, Some}
-use Rattle.std.proofs.{Common.{None, option_map, Vec, arith}, lemmas.{Bool.MatchBool-at_false, List.Sorted.length_permutation}}
+use Rattle.std.proofs.{lemmas.{Grind.common_steps, Bool.MatchBool-at_false, List.Sorted.length_permutation}, Common.{◌≡◌, ◌≢◌, ◌∙◌, ◌⊎◌, ℕ}}
+use Rattle.std.proofs.Common.{Bool, true, false, List, [], ◌∷◌, map, refl, sym, ap, subst, Option, Some, None, option_map, Vec, arith}
 use Rattle.std.specs.{Global.Global, Prelude.{MatchOption, is_some, unwrap_or}, Bool.MatchBool, List.Sorted.{IsPermutation, IsSortedByKey}}
 use Rattle.lc_level.specs.{FaultLines.FaultLineModel, Level.{FileLineModel, SkippedLineModel}}
 use Rattle.lc_tree.specs.ByteOrder.{bytes_cmp}
 use Rattle.lc_walk.specs.{ReportTotals.counted_line, Sums.plus, Tally.{IsTally, sums_of_files}, TallyRows.{AddsUp, TallyRowModel}}
-use Rattle.lc_walk.specs.{TallyRows.sums_of_rows, declared.tally.sums.Sums.Sums}
+use Rattle.lc_walk.specs.{TallyRows.sums_of_rows, declared.{tally.{sums.Sums.Sums, classes.ClassSums.ClassSums}, report.Report.Report}}
+use Rattle.lc_walk.specs.{Classes.binary_sums, AllColumns.all_columns}
 use Rattle.lc_reading.specs.{Kept.{Agrees, IsFinished, IsKept, IsKeptOf}, Lines.{IsFaultOf, IsFileOf, IsSkippedOf}, Members.Member}
 use Rattle.lc_reading.specs.{Members.{HasNumber, Lacks, members_of, named}, Objects.{HasLines, IsObjectOf, MayHaveLines, is_value}}
 use Rattle.lc_reading.specs.{Reports.{HasOrdered, HaveColumns, IsNumbersOf, IsReportOf, row_in}, Rows.{HasSums, IsRowOf}}
 use Rattle.lc_reading.specs.declared.{kept_files.Kept.Kept, member_name.MemberName.MemberName, numbers_of.Numbers.Numbers}
-use Rattle.lc_reading.specs.declared.object.Object.{Object}
-use Rattle.lc_reading.specs.declared.rows.ReadRow.{ReadRow}
-use Rattle.lc_reading.specs.declared.member_name.MemberName.TheVariants as name
-use Rattle.lc_walk.specs.{Classes.binary_sums, AllColumns.all_columns, declared.tally.classes.ClassSums.ClassSums}
+use Rattle.lc_reading.specs.declared.{object.Object.Object, rows.ReadRow.ReadRow}
 use Rattle.lc_sheet.specs.declared.table_options.Columns.{Columns}
-use Rattle.lc_walk.specs.declared.report.Report.{Report}
+use Rattle.lc_reading.specs.declared.member_name.MemberName.TheVariants as name
 
 -- ---- numbers, of members that are among others
 
@@ -30,11 +28,7 @@ cut_among b ms vs uncut e is = sym e ∙ MatchBool-at_false _ _ uncut is
 entries_among : (o : Option ℕ) (ms vs : List Member) → named name.Entries vs ≡ named name.Entries ms
     → MatchOption o (Lacks name.Entries vs) (HasNumber name.Entries vs) → (b : Bool) → b ≡ is_some o → (n : ℕ) → n ≡ unwrap_or o 0
     → MatchBool b (HasNumber name.Entries ms n) (Lacks name.Entries ms × (n ≡ 0))
-entries_among None ms vs e is b is_b n is_n =
-    subst (λ c. MatchBool c (HasNumber name.Entries ms n) (Lacks name.Entries ms × (n ≡ 0))) (sym is_b) (sym e ∙ is, is_n)
-entries_among (Some m) ms vs e is b is_b n is_n =
-    subst (λ c. MatchBool c (HasNumber name.Entries ms n) (Lacks name.Entries ms × (n ≡ 0))) (sym is_b)
-    (subst (HasNumber name.Entries ms) (sym is_n) (sym e ∙ is))
+entries_among o ms vs e is b is_b n is_n = grind (arith, common_steps)
 
 -- ---- lists
 
@@ -57,11 +51,7 @@ skipped_among ms None s found lines is may same order b is_b =
       subst (λ (t : Option (Vec SkippedLineModel Global)). MayHaveLines IsSkippedOf name.Left ms (option_map (λ v. v.items) t)) is.0 may,
       none_of lines (subst (λ (xs : List SkippedLineModel). IsPermutation xs lines) is.1 same),
     )
-skipped_among ms (Some m) s found lines is may same order b is_b =
-    subst (λ c. MatchBool c (HasOrdered IsSkippedOf (λ l. l.path) name.Left ms lines) (Lacks name.Left ms × (lines ≡ []))) (sym is_b)
-    (ordered_of IsSkippedOf (λ l. l.path) name.Left ms found.items lines
-    (subst (λ (t : Option (Vec SkippedLineModel Global)). MayHaveLines IsSkippedOf name.Left ms (option_map (λ v. v.items) t)) is may)
-    same order)
+skipped_among ms (Some m) s found lines is may same order b is_b = grind (arith, common_steps, none_of, ordered_of)
 
 -- ---- rows and files
 
@@ -77,14 +67,7 @@ files_among : (attributes : List (List ℕ)) (ms : List Member) (files : Option 
     (k : Kept)
     → MayHaveLines (IsFileOf attributes) name.Files ms files → IsKept files columns rows total k
     → FilesOf attributes ms k.has_files k.files.items total.files
-files_among attributes ms (Some files) columns rows total k may kept =
-    subst (λ b. FilesOf attributes ms b k.files.items total.files) (sym kept.listed)
-    (inl (ordered_of (IsFileOf attributes) (λ f. f.path) name.Files ms files k.files.items may kept.same kept.order))
-files_among attributes ms None columns rows total k may (inl kept) =
-    subst (λ b. FilesOf attributes ms b k.files.items total.files) (sym kept.0.listed) (inr
-    (may, none_of k.files.items kept.0.same, kept.1))
-files_among attributes ms None columns rows total k may (inr kept) =
-    subst (λ b. FilesOf attributes ms b k.files.items total.files) (sym kept.0.unlisted) (may, kept.0.none, kept.1)
+files_among attributes ms files columns rows total k may kept = grind (arith, common_steps, ordered_of, none_of)
 
 abbrev RowsKept : Bool → Columns → Columns → List TallyRowModel → List TallyRowModel → Type 0
 RowsKept has_files kept columns rows made =
@@ -92,12 +75,7 @@ RowsKept has_files kept columns rows made =
 
 rows_kept : (files : Option (List FileLineModel)) (columns : Columns) (rows : List TallyRowModel) (total : Sums) (k : Kept)
     → IsKept files columns rows total k → RowsKept k.has_files k.columns columns rows k.rows.items
-rows_kept (Some files) columns rows total k kept = subst (λ b. RowsKept b k.columns columns rows k.rows.items) (sym kept.listed)
-    kept.columns_are
-rows_kept None columns rows total k (inl kept) = subst (λ b. RowsKept b k.columns columns rows k.rows.items) (sym kept.0.listed)
-    kept.0.columns_are
-rows_kept None columns rows total k (inr kept) =
-    subst (λ b. RowsKept b k.columns columns rows k.rows.items) (sym kept.0.unlisted) (kept.0.columns_are, kept.0.added)
+rows_kept files columns rows total k kept = grind (arith, common_steps)
 
 -- the sums over the rows that are kept, and over the files
 pub record SumsKept (total : Sums) (has_files : Bool) (rows : List TallyRowModel) (files : List FileLineModel) : Type 0 where
@@ -111,13 +89,7 @@ sums_of_kept total files k kept = record { rows_are = kept.rows_are; files_are =
 
 sums_kept : (files : Option (List FileLineModel)) (columns : Columns) (rows : List TallyRowModel) (total : Sums) (k : Kept)
     → IsKept files columns rows total k → SumsKept total k.has_files k.rows.items k.files.items
-sums_kept (Some files) columns rows total k kept = sums_of_kept total files k kept
-sums_kept None columns rows total k (inl kept) = sums_of_kept total [] k kept.0
-sums_kept None columns rows total k (inr kept) = record {
-  rows_are = kept.0.rows_are;
-  files_are = λ h. let never : false ≡ true = sym kept.0.unlisted ∙ h in absurd (cc);
-  tally = λ h. let never : false ≡ true = sym kept.0.unlisted ∙ h in absurd (cc);
-}
+sums_kept files columns rows total k kept = grind (arith, common_steps, sums_of_kept)
 
 -- ---- the whole report
 

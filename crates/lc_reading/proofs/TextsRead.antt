@@ -1,6 +1,6 @@
 -- Texts that are cut and read one after another.
-use Rattle.std.proofs.Common.{◌≡◌, ◌∙◌, ℕ, List, [], ◌∷◌, ◌++◌, sym, ap, append_assoc, append-nil, Option, Some, None, option_and_then}
-use Rattle.std.proofs.{Common.{false, arith, Result, Ok, Err}, lemmas.List.Concat.flat_map-append}
+use Rattle.std.proofs.{lemmas.{Grind.common_steps, List.Concat.flat_map-append}, Common.{◌≡◌, ◌∙◌, ℕ, List, [], ◌∷◌, ◌++◌, sym, ap}}
+use Rattle.std.proofs.Common.{append_assoc, append-nil, Option, Some, option_and_then, false, arith, Result, Ok, Err}
 use Rattle.std.specs.{List.flat_map, Prelude.{IfOk, MatchOption, is_some}}
 use Rattle.json.specs.{Json.{Json, document, if_last, max_depth, object, skip_value, value}, Lex.tokens, Token.Token, Tree.depth}
 use Rattle.json.specs.Tree.{json_tokens}
@@ -10,14 +10,10 @@ use Rattle.lc_reading.specs.{Texts.{IsJson, IsReportText}, declared.object.Objec
 use Rattle.lc_walk.specs.declared.report.Report.{Report}
 
 pub json_is : (text : List ℕ) (rest : List Token) → skip_value max_depth (tokens text) ≡ Some rest → rest ≡ [] → IsJson text
-json_is text rest e none =
-    let j = left_some (value max_depth (tokens text)) rest e in
-    record { value = j.0; is = ap (option_and_then (λ p. if_last p.0 p.1)) (j.1 ∙ ap (λ (ts : List Token). Some (j.0, ts)) none) }
+json_is text rest e none = grind (arith, common_steps, left_some)
 
 read_whole : (o : Option (Json × List Token)) (j : Json) → option_and_then (λ p. if_last p.0 p.1) o ≡ Some j → o ≡ Some (j, [])
-read_whole None j e = absurd (cc)
-read_whole (Some (i, [])) j e = let same : i ≡ j = cc in ap (λ (k : Json). Some (k, [])) same
-read_whole (Some (i, t ∷ ts)) j e = absurd (cc)
+read_whole o j e = grind (arith, common_steps)
 
 -- where the tokens of a text are those of a value, it is the value
 same_value : (text : List ℕ) (j k : Json) → document text ≡ Some j → tokens text ≡ json_tokens k ++ [] → j ≡ k
@@ -64,13 +60,10 @@ one_text_more attributes text rest piece more reports r far cut is = record {
 }
 
 pub if_ok : {A E : Type 0} (P Q : A → Type 0) (r : Result A E) → ((a : A) → P a → Q a) → IfOk r P → IfOk r Q
-if_ok P Q (Ok a) f p = f a p
-if_ok P Q (Err e) f p = p
+if_ok P Q r f p = grind (arith, common_steps)
 
 pub none_left : {A : Type 0} (P : Type 0) (Q : A → Type 0) (r : Option A) → is_some r ≡ false → MatchOption r P Q → P
-none_left P Q None e is = is
-none_left P Q (Some a) e is = absurd (cc)
+none_left P Q r e is = grind (arith, common_steps)
 
 pub never_none : {A : Type 0} (xs : List A) (x : A) → xs ++ x ∷ [] ≡ [] → ⊥
-never_none [] x e = absurd (cc)
-never_none (y ∷ ys) x e = absurd (cc)
+never_none xs x e = grind (arith, common_steps)

@@ -1,6 +1,6 @@
 -- What is found in a list of all words.
-use Rattle.std.proofs.Common.{◌≡◌, ◌≢◌, ℕ, Bool, true, false, List, [], ◌∷◌, Option, Some, None, refl, sym, ap, cond, ◌∙◌, ◌⊎◌, inl, inr}
-use Rattle.std.proofs.lemmas.Slice.Eq.{bytes_eq-Decides}
+use Rattle.std.proofs.Common.{arith, ◌≡◌, ◌≢◌, ℕ, Bool, true, false, List, [], ◌∷◌, Option, Some, None, refl, sym, cond, ◌∙◌, ◌⊎◌, inl}
+use Rattle.std.proofs.{Common.inr, lemmas.{Grind.common_steps, Slice.Eq.bytes_eq-Decides}}
 use Rattle.std.specs.{Prelude.{MatchOption, find, bytes_eq}, Bool.Decides}
 use Rattle.lc_census.specs.{EolWords.eol_word, declared.line_count.Eol.{Eol, TheVariants.{NoEnd, Lf, CrLf, Cr, Mixed, Nul}}}
 use Rattle.lc_level.specs.{FaultWords.fault_word, declared.fault_word.FaultWord.FaultWord}
@@ -8,9 +8,9 @@ use Rattle.lc_level.specs.declared.fault_word.FaultWord.TheVariants.{Read, Name,
 use Rattle.lc_rules.specs.{TextWords.text_word, declared.states.TextState.{TextState, TheVariants.{Set, Unset, Auto, Other, Unspecified}}}
 use Rattle.lc_reading.specs.{MemberNames.member_name, Members.is_word, Objects.is_value, declared.member_name.MemberName.MemberName}
 use Rattle.lc_reading.specs.declared.member_name.MemberName.TheVariants.{Rows, Others, Total, Text, Binary, Directories, Entries, Files}
-use Rattle.lc_reading.specs.declared.member_name.MemberName.TheVariants.{Left, Faults, Path, PathBytes, Ext, ExtBytes, Lines, Blank, Bytes}
-use Rattle.lc_reading.specs.declared.member_name.MemberName.TheVariants.{Kind, Reason, File, FileBytes, Line, Attribute, AttributeBytes}
-use Rattle.lc_reading.specs.declared.member_name.MemberName.TheVariants.{Word}
+use Rattle.lc_reading.specs.declared.member_name.MemberName.TheVariants.{Left, Faults, Path, PathBytes, Ext, ExtBytes, Lines, Blank}
+use Rattle.lc_reading.specs.declared.member_name.MemberName.TheVariants.{Bytes, Kind, Reason, File, FileBytes, Line, Attribute}
+use Rattle.lc_reading.specs.declared.member_name.MemberName.TheVariants.{AttributeBytes, Word}
 use Rattle.lc_reading.specs.declared.member_name.MemberName.TheVariants as name
 
 abbrev pub IsIn : {A : Type 0} → A → List A → Type 0
@@ -20,13 +20,11 @@ IsIn a (x ∷ xs) = (x ≡ a) ⊎ IsIn a xs
 module _ {A : Type 0} (p : A → Bool) where
   first_is : (x : A) (xs : List A) (a : A) (b : Bool) → p x ≡ b → (Some a ≡ find p xs → p a ≡ true)
       → Some a ≡ cond b (Some x) (find p xs) → p a ≡ true
-  first_is x xs a true is more e = let same : a ≡ x = cc in ap p same ∙ is
-  first_is x xs a false is more e = more e
+  first_is x xs a b is more e = grind (arith, common_steps)
 
   in_first : (x : A) (xs : List A) (a : A) (b : Bool) → (Some a ≡ find p xs → IsIn a xs) → Some a ≡ cond b (Some x) (find p xs)
       → IsIn a (x ∷ xs)
-  in_first x xs a true more e = let same : x ≡ a = cc in inl same
-  in_first x xs a false more e = inr (more e)
+  in_first x xs a b more e = grind (arith, common_steps)
 
   some_found : (xs : List A) (a : A) → Some a ≡ find p xs → p a ≡ true
   some_found [] a e = absurd (cc)
@@ -35,9 +33,7 @@ module _ {A : Type 0} (p : A → Bool) where
   none_first : (x : A) (xs : List A) (a : A) (b : Bool) → p x ≡ b → (None ≡ find p xs → IsIn a xs → p a ≡ false)
       → None ≡ cond b (Some x) (find p xs)
       → IsIn a (x ∷ xs) → p a ≡ false
-  none_first x xs a true is more e i = absurd (cc)
-  none_first x xs a false is more e (inl same) = ap p (sym same) ∙ is
-  none_first x xs a false is more e (inr later) = more e later
+  none_first x xs a b is more e i = grind (arith, common_steps)
 
   none_found : (xs : List A) (a : A) → None ≡ find p xs → IsIn a xs → p a ≡ false
   none_found [] a e i = absurd i
@@ -57,12 +53,7 @@ abbrev all_eols : List Eol
 all_eols = NoEnd ∷ Lf ∷ CrLf ∷ Cr ∷ Mixed ∷ Nul ∷ []
 
 each_eol : (a : Eol) → IsIn a all_eols
-each_eol NoEnd = inl refl
-each_eol Lf = inr (inl refl)
-each_eol CrLf = inr (inr (inl refl))
-each_eol Cr = inr (inr (inr (inl refl)))
-each_eol Mixed = inr (inr (inr (inr (inl refl))))
-each_eol Nul = inr (inr (inr (inr (inr (inl refl)))))
+each_eol a = grind (arith, common_steps)
 
 pub eol_found : (w : List ℕ) (r : Option Eol) → r ≡ find (λ a. bytes_eq (eol_word a) w) all_eols
     → MatchOption r ((a : Eol) → eol_word a ≢ w) (λ a. eol_word a ≡ w)
@@ -72,13 +63,7 @@ abbrev all_faults : List FaultWord
 all_faults = Read ∷ Name ∷ Twice ∷ Many ∷ Long ∷ Endless ∷ Absent ∷ []
 
 each_fault : (a : FaultWord) → IsIn a all_faults
-each_fault Read = inl refl
-each_fault Name = inr (inl refl)
-each_fault Twice = inr (inr (inl refl))
-each_fault Many = inr (inr (inr (inl refl)))
-each_fault Long = inr (inr (inr (inr (inl refl))))
-each_fault Endless = inr (inr (inr (inr (inr (inl refl)))))
-each_fault Absent = inr (inr (inr (inr (inr (inr (inl refl))))))
+each_fault a = grind (arith, common_steps)
 
 pub fault_found : (w : List ℕ) (r : Option FaultWord) → r ≡ find (λ a. bytes_eq (fault_word a) w) all_faults
     → MatchOption r ((a : FaultWord) → fault_word a ≢ w) (λ a. fault_word a ≡ w)
@@ -89,16 +74,10 @@ abbrev all_states : List TextState
 all_states = Set ∷ Unset ∷ Auto ∷ Other ∷ Unspecified ∷ []
 
 each_state : (a : TextState) → IsIn a all_states
-each_state Set = inl refl
-each_state Unset = inr (inl refl)
-each_state Auto = inr (inr (inl refl))
-each_state Other = inr (inr (inr (inl refl)))
-each_state Unspecified = inr (inr (inr (inr (inl refl))))
+each_state a = grind (arith, common_steps)
 
 word_decides : (w : List ℕ) (own : Option (List ℕ)) → Decides (is_word w own) (own ≡ Some w)
-word_decides w None = ((λ e. absurd (cc)), (λ e. absurd (cc)))
-word_decides w (Some own) =
-    ((λ e. ap (λ (s : List ℕ). Some s) ((bytes_eq-Decides own w).0 e)), (λ e. let same : own ≡ w = cc in (bytes_eq-Decides own w).1 same))
+word_decides w own = grind (arith, common_steps, bytes_eq-Decides)
 
 pub state_found : (w : List ℕ) (r : Option TextState) → r ≡ find (λ a. is_word w (text_word a)) all_states
     → MatchOption r ((a : TextState) → text_word a ≢ Some w) (λ a. text_word a ≡ Some w)
@@ -137,20 +116,11 @@ value_in AttributeBytes e = absurd (cc)
 value_in Word e = absurd (cc)
 
 in_value : (n : MemberName) → IsIn n value_names → is_value n ≡ true
-in_value n (inl e) = ap is_value (sym e)
-in_value n (inr (inl e)) = ap is_value (sym e)
-in_value n (inr (inr (inl e))) = ap is_value (sym e)
-in_value n (inr (inr (inr (inl e)))) = ap is_value (sym e)
-in_value n (inr (inr (inr (inr (inl e))))) = ap is_value (sym e)
-in_value n (inr (inr (inr (inr (inr (inl e)))))) = ap is_value (sym e)
-in_value n (inr (inr (inr (inr (inr (inr never)))))) = absurd never
+in_value n is = grind (arith, common_steps)
 
 pub value_found : (k : List ℕ) (r : Option MemberName) → r ≡ find (λ n. bytes_eq (member_name n) k) value_names
     → MatchOption r ((n : MemberName) → is_value n ≡ true → k ≢ member_name n) (λ n. (is_value n ≡ true) × (k ≡ member_name n))
-value_found k None e = λ n is same.
-    let there : bytes_eq (member_name n) k ≡ true = (bytes_eq-Decides (member_name n) k).1 (sym same) in
-    let not : bytes_eq (member_name n) k ≡ false = none_found (λ n. bytes_eq (member_name n) k) value_names n e (value_in n is) in
-    absurd (cc)
+value_found k None e = grind (arith, common_steps, bytes_eq-Decides, none_found, value_in, in_value, some_in, some_found)
 value_found k (Some n) e = (
   in_value n (some_in (λ n. bytes_eq (member_name n) k) value_names n e),
   sym ((bytes_eq-Decides (member_name n) k).0 (some_found (λ n. bytes_eq (member_name n) k) value_names n e)),

@@ -16,15 +16,6 @@ use lc_sheet::{AttributeColumn, Columns};
 use lc_walk::{ClassSums, FaultLine, FileLine, Report, ReportLists, SkippedLine, TallyRow};
 use std::alloc::{AllocError, Global};
 
-fn lines_of<T: Drop>(lines: Option<Vec<T>>, name: MemberName) -> Result<Vec<T>, NoReport>
-    ensures { IfOk result (λ found. lines ≡ Some found) }
-{
-    match lines {
-        Some(found) => Ok(found),
-        None => Err(NoReport::Missing(name)),
-    }
-}
-
 /// Returns the skipped entries. An object must have their list exactly if it has the number of entries.
 fn skipped_with(
     alloc: Global,
@@ -131,8 +122,8 @@ pub(crate) fn report_of(
         faults,
     } = object;
     let numbers = numbers_of(&values)?;
-    let rows = lines_of(rows, MemberName::Rows)?;
-    let faults = lines_of(faults, MemberName::Faults)?;
+    let rows = rows.ok_or(NoReport::Missing(MemberName::Rows))?;
+    let faults = faults.ok_or(NoReport::Missing(MemberName::Faults))?;
     let skipped = skipped_with(alloc, numbers.entries, skipped)?;
     let columns = columns_of_rows(&rows)?;
     let rows = tally_rows(alloc, rows)?;

@@ -21,14 +21,6 @@ struct Nesting {
 }
 
 impl Nesting {
-    /// Returns the place before the first byte of an object.
-    fn outside() -> Nesting {
-        Nesting {
-            place: Place::Between,
-            open: 0,
-        }
-    }
-
     /// Returns the place after one more byte, `byte`.
     fn after(self, byte: u8) -> Nesting {
         let Nesting { place, open } = self;
@@ -60,21 +52,19 @@ impl Nesting {
             (Place::Between | Place::InString, _) => self,
         }
     }
-
-    /// Returns whether an object ends at this place, just after `byte`.
-    fn has_ended(self, byte: u8) -> bool {
-        byte == b'}' && self.open == 0 && self.place == Place::Between
-    }
 }
 
 /// Returns the length of the object at the beginning of a text, with the white space before it, or `None` if the object does not end.
 pub(crate) fn object_length(text: &[u8]) -> Option<usize>
     ensures { IfSome result (λ n. (0 < n) × (n ≤ length text.now)) }
 {
-    let mut nesting = Nesting::outside();
+    let mut nesting = Nesting {
+        place: Place::Between,
+        open: 0,
+    };
     for (at, byte) in text.iter().enumerate() {
         nesting = nesting.after(*byte);
-        if nesting.has_ended(*byte) {
+        if *byte == b'}' && nesting.open == 0 && nesting.place == Place::Between {
             return Some(at + 1);
         }
     }

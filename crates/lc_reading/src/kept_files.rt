@@ -24,15 +24,6 @@ pub(crate) struct Kept {
     pub(crate) files: Vec<FileLine>,
 }
 
-/// Sorts lines by their paths.
-fn ordered<L: Line>(mut lines: Vec<L>) -> Vec<L>
-    ensures same { IsPermutation lines.items result.items }
-    ensures order { IsSortedByKey L.path_of bytes_cmp result.items }
-{
-    sort_lines(&mut lines);
-    lines
-}
-
 /// Sorts lines by their paths. Lines with the same path keep their order.
 pub(crate) fn in_order<L: Line + Drop>(mut lines: Vec<L>) -> Result<Vec<L>, AllocError>
     ensures same { IfOk result (λ sorted. IsPermutation lines.items sorted.items) }
@@ -72,10 +63,10 @@ pub(crate) fn tally_rows(alloc: Global, rows: Vec<ReadRow>) -> Result<Vec<TallyR
 }
 
 /// Makes the rows of a report from its files. The files and the rows must add up to the total.
-fn with_files(alloc: Global, files: Vec<FileLine>, total: Sums) -> Result<Kept, ReadFault>
+fn with_files(alloc: Global, mut files: Vec<FileLine>, total: Sums) -> Result<Kept, ReadFault>
     ensures { IfOk result (IsKeptOf total files.items) }
 {
-    let files = ordered(files);
+    sort_lines(&mut files);
     let (rows, sums) = rows_of_files(alloc, &files)?;
     if sums != total || !rows_add_up(&rows, total) {
         return Err(ReadFault::DoNotAddUp(Part::Files));

@@ -1,9 +1,9 @@
 //! Reading the numbers, texts and bytes in the members of an object.
 
-ghost use Rattle.std.specs.Prelude.{ℕ, List, OnErr, ◌≡◌, ◌<◌, ◌^◌, map, decimal, IfOk, IfSome, MatchOption};
+ghost use Rattle.std.specs.Prelude.{ℕ, List, OnErr, ◌≡◌, ◌<◌, ◌^◌, map, decimal, IfOk, IfSome};
 ghost use Rattle.json.specs.Json.{number as json_number};
 ghost use Rattle.json.specs.Value.{value_view};
-ghost use Rattle.lc_reading.specs.Members.{HasBytes, HasList, HasNumber, HasText, Lacks, bytes_json, members_of, values_of};
+ghost use Rattle.lc_reading.specs.Members.{HasBytes, HasNumber, HasText, bytes_json, members_of, values_of};
 
 use crate::member_name::MemberName;
 use crate::members::{needed, optional};
@@ -105,53 +105,6 @@ pub(crate) fn bytes_of_array(
     }
 }
 
-/// Reads the bytes that the member `list` has as a list of numbers, if there is such a member.
-fn bytes_of_list<'a>(
-    alloc: Global,
-    members: &[(&'a str, Value<'a>)],
-    list: MemberName,
-) -> Result<Option<Vec<u8>>, ReadFault>
-    ensures { IfOk result (λ found. MatchOption found (Lacks list (members_of members.now))
-        (λ bytes. HasList list (members_of members.now) bytes.items)) }
-{
-    match optional(members, list)? {
-        Some(value) => Ok(Some(bytes_of_array(alloc, value, NoReport::Bad(list))?)),
-        None => Ok(None),
-    }
-}
-
-/// Reads the bytes of the text in the member `text`. There must be no member `list`.
-fn bytes_of_text<'a>(
-    alloc: Global,
-    members: &[(&'a str, Value<'a>)],
-    text: MemberName,
-    list: MemberName,
-) -> Result<Vec<u8>, ReadFault>
-    ensures { IfOk result (λ bytes. HasText text (members_of members.now) bytes.items × Lacks list (members_of members.now)) }
-{
-    let found = text_in(members, text)?;
-    match optional(members, list)? {
-        None => Ok(found.as_bytes().to_vec(alloc)?),
-        Some(_) => Err(ReadFault::NoReport(NoReport::Twice(text))),
-    }
-}
-
-/// Reads bytes from a text in the member `text`, or from a list of numbers in the member `list`. Returns `None` if there is neither.
-pub(crate) fn optional_bytes<'a>(
-    alloc: Global,
-    members: &[(&'a str, Value<'a>)],
-    text: MemberName,
-    list: MemberName,
-) -> Result<Option<Vec<u8>>, ReadFault>
-    ensures { IfOk result (λ found. MatchOption found (Lacks text (members_of members.now) × Lacks list (members_of members.now))
-        (λ bytes. HasBytes text list (members_of members.now) bytes.items)) }
-{
-    match optional(members, text)? {
-        None => bytes_of_list(alloc, members, list),
-        Some(_) => Ok(Some(bytes_of_text(alloc, members, text, list)?)),
-    }
-}
-
 /// Reads bytes from a text in the member `text`, or from a list of numbers in the member `list`. One of the two must be there.
 pub(crate) fn bytes_in<'a>(
     alloc: Global,
@@ -161,8 +114,15 @@ pub(crate) fn bytes_in<'a>(
 ) -> Result<Vec<u8>, ReadFault>
     ensures { IfOk result (λ bytes. HasBytes text list (members_of members.now) bytes.items) }
 {
-    match optional_bytes(alloc, members, text, list)? {
-        Some(bytes) => Ok(bytes),
-        None => Err(ReadFault::NoReport(NoReport::Missing(text))),
+    if optional(members, text)?.is_none() {
+        return match optional(members, list)? {
+            Some(value) => bytes_of_array(alloc, value, NoReport::Bad(list)),
+            None => Err(ReadFault::NoReport(NoReport::Missing(text))),
+        };
+    }
+    let found = text_in(members, text)?;
+    match optional(members, list)? {
+        None => Ok(found.as_bytes().to_vec(alloc)?),
+        Some(_) => Err(ReadFault::NoReport(NoReport::Twice(text))),
     }
 }
