@@ -1,6 +1,6 @@
 -- Files that are sorted by their paths, each path once.
-use Rattle.std.proofs.Common.{◌≡◌, ℕ, Bool, true, false, cond, ◌||◌, List, [], ◌∷◌, map, refl, sym, ◌∙◌, ap, IsPermutation}
-use Rattle.std.proofs.lemmas.Cmp.{nat_list_cmp_total, on_total}
+use Rattle.std.proofs.Common.{arith, ◌≡◌, ℕ, Bool, true, false, cond, ◌||◌, List, [], ◌∷◌, map, refl, sym, ◌∙◌, IsPermutation}
+use Rattle.std.proofs.lemmas.{Grind.common_steps, Cmp.{nat_list_cmp_total, on_total}}
 use Rattle.std.proofs.lemmas.List.Kept.{Contains-from_dedup, IsStrictlySortedBy-dedup}
 use Rattle.std.proofs.lemmas.List.Sorted.{Contains-permutation, IsPermutation-sym, list_any-IsPermutation}
 use Rattle.std.proofs.lemmas.Map.Lookups.{exact_bytes}
@@ -33,9 +33,7 @@ module _ (paths : List ℕ → Bool) where
   kept_once : (k f : FileLineModel) (fs : List FileLineModel) (b : Bool) → have_one_path f k ≡ b
       → any (dedup have_one_path (k ∷ fs)) ≡ any (k ∷ fs) → any (dedup have_one_path (f ∷ fs)) ≡ any (f ∷ fs)
       → any (cond b (dedup have_one_path (k ∷ fs)) (k ∷ dedup have_one_path (f ∷ fs))) ≡ any (k ∷ f ∷ fs)
-  kept_once k f fs true same without with =
-      without ∙ twice (paths k.path) (any fs) ∙ ap (λ p. paths k.path || (paths p || any fs)) (sym (one_path f k same))
-  kept_once k f fs false other without with = ap (λ b. paths k.path || b) with
+  kept_once k f fs b same without with = grind (arith, common_steps, twice, one_path)
 
   any_kept : (k : FileLineModel) (fs : List FileLineModel)
       → list_any (λ (f : FileLineModel). paths f.path) (dedup have_one_path (k ∷ fs))

@@ -1,8 +1,8 @@
 -- Rows of a comparison add up to the rows of both reports: each of these is in exactly one row.
-use Rattle.std.proofs.Common.{◌≡◌, ℕ, ◌+◌, Bool, true, false, cond, ◌||◌, List, [], ◌∷◌, map, refl, sym, ◌∙◌, ap, arith}
-use Rattle.std.proofs.lemmas.Cmp.{eq_by_cmp_equiv, tied_itself}
+use Rattle.std.proofs.lemmas.{Grind.common_steps, Cmp.{eq_by_cmp_equiv, tied_itself}}
 use Rattle.std.proofs.lemmas.List.{Elements.{All-contains_itself, All-weaker, recursion_from_All}, Folds.list_any_at, Sums.sum_by-cons}
-use Rattle.std.proofs.lemmas.Map.Lookups.{CmpEqualImpliesEq}
+use Rattle.std.proofs.{lemmas.Map.Lookups.CmpEqualImpliesEq, Common.{◌≡◌, ℕ, ◌+◌, Bool, true, false, cond, ◌||◌, List, [], ◌∷◌, map, refl}}
+use Rattle.std.proofs.Common.{sym, ◌∙◌, ap, arith}
 use Rattle.std.specs.{Cmp.IsTotalOrder, List.{All, AllByRecursion, Contains, filter, list_any, sum_by, Sorted.IsStrictlySortedBy}}
 use Rattle.std.specs.{Ordering.{eq_by_cmp, is_eq, ordering_reverse}, declared.cmp.Ordering.Ordering}
 use Rattle.lc_changes.proofs.Pairing.{Below}
@@ -95,9 +95,7 @@ over_keys v (x ∷ xs) ks order there =
 
 -- a row of the list has its own key
 there_is : (xs : List ShownRowModel) (x : ShownRowModel) → Contains xs x → has_within (same_row_key (row_key x)) xs ≡ true
-there_is xs x has =
-    list_any_at (λ (y : ShownRowModel). same_row_key (row_key x) (row_key y)) xs has.0 x has.1
-    (ap (λ (y : ShownRowModel). same_row_key (row_key x) (row_key y)) has.2 ∙ ap is_eq (tied_itself row_key_cmp_total (row_key x)))
+there_is xs x has = grind (arith, common_steps, list_any_at, tied_itself, row_key_cmp_total)
 
 module _ (xs : List ShownRowModel) (sums : ChangedRowModel → Sums) (rows : List ChangedRowModel)
     (are : All (λ (r : ChangedRowModel). sums r ≡ sums_at (changed_key r) xs) rows)
@@ -126,9 +124,7 @@ module _ (xs : List ShownRowModel) (sums : ChangedRowModel → Sums) (rows : Lis
   in_all : (v : Sums → ℕ) → ((k : RowKey) → v (sums_at k xs)
       ≡ sum_by (λ (x : ShownRowModel). v x.sums) (filter (λ (x : ShownRowModel). same_row_key k (row_key x)) xs))
       → sum_by (λ (r : ChangedRowModel). v (sums r)) rows ≡ sum_by (λ (x : ShownRowModel). v x.sums) xs
-  in_all v is =
-      in_rows v is rows (recursion_from_All (λ (r : ChangedRowModel). sums r ≡ sums_at (changed_key r) xs) rows are)
-      ∙ over_keys (λ (x : ShownRowModel). v x.sums) xs (map changed_key rows) order covered
+  in_all v is = grind (arith, common_steps, in_rows, recursion_from_All, over_keys, covered)
 
   pub counted_once : sums_over sums rows ≡ sums_of_shown xs
   counted_once = same_sums _ _ (in_all (λ s. s.files) (λ k. refl)) (in_all (λ s. s.lines) (λ k. refl))

@@ -1,6 +1,6 @@
 -- Files that are set side by side are those at their paths.
-use Rattle.std.proofs.Common.{◌≡◌, ℕ, Bool, true, false, cond, ◌||◌, List, [], ◌∷◌, map, Option, refl, sym, ◌∙◌, ap, subst}
-use Rattle.std.proofs.lemmas.Cmp.{nat_list_cmp_total}
+use Rattle.std.proofs.Common.{arith, ◌≡◌, ℕ, Bool, true, false, cond, ◌||◌, List, [], ◌∷◌, map, Option, refl, sym, ◌∙◌, ap, subst}
+use Rattle.std.proofs.lemmas.{Grind.common_steps, Cmp.nat_list_cmp_total}
 use Rattle.std.proofs.lemmas.List.Elements.{All-contains_itself, All-filter, All-from_recursion, All-head, All-map, All-weaker}
 use Rattle.std.proofs.lemmas.List.Elements.{filter_passes, recursion_from_All}
 use Rattle.std.proofs.lemmas.Map.Lookups.{exact_bytes}
@@ -15,9 +15,7 @@ use Rattle.lc_tree.specs.ByteOrder.{bytes_cmp}
 use Rattle.lc_walk.proofs.Keys.{equal_if}
 
 path_of_file : (p : PairModel FileLineModel) → changed_path (file_of_pair p) ≡ pair_key file_path p
-path_of_file (removed o) = refl
-path_of_file (added n) = refl
-path_of_file (both o n) = refl
+path_of_file p = grind (arith, common_steps)
 
 paths_of_files : (ps : List (PairModel FileLineModel)) → map changed_path (map file_of_pair ps) ≡ map (pair_key file_path) ps
 paths_of_files [] = refl

@@ -1,9 +1,8 @@
 -- The parts of two reports whose files are marked are those of the pairs that are kept.
-use Rattle.std.proofs.Common.{◌≡◌, ℕ, Bool, false, List, filter, ◌∙◌, ap, subst}
+use Rattle.std.proofs.{Common.{arith, ◌≡◌, ℕ, Bool, false, List, ◌∙◌}, lemmas.Grind.common_steps}
 use Rattle.std.specs.{Bool.MatchBool, List.items_where_true}
 use Rattle.lc_changes.proofs.Searching.{kept_by_marks}
-use Rattle.lc_changes.specs.{FileChanges.FileChangeModel, KeptChanges.{AreKeptParts, AreMarked, AreParts, files_of_pairs, has_path}}
-use Rattle.lc_changes.specs.KeptChanges.{keeps_change, marks_by}
+use Rattle.lc_changes.specs.{FileChanges.FileChangeModel, KeptChanges.{AreKeptParts, AreMarked, AreParts, files_of_pairs, marks_by}}
 use Rattle.lc_level.specs.Level.{FileLineModel}
 use Rattle.lc_rows.specs.Kept.{IsPartWith}
 use Rattle.lc_sheet.specs.{ChangeKinds.are_all_changes, declared.change_kinds.ChangeKinds.ChangeKinds}
@@ -11,22 +10,11 @@ use Rattle.lc_walk.specs.declared.report.Report.{Report}
 
 part_of_pairs : (pairs : List FileChangeModel) (r part : Report) (marks : List Bool) → marks ≡ marks_by pairs r.files.items
     → IsPartWith (items_where_true marks r.files.items) r part → IsPartWith (files_of_pairs pairs r.files.items) r part
-part_of_pairs pairs r part marks are is =
-    subst (λ (fs : List FileLineModel). IsPartWith fs r part)
-    (ap (λ bs. items_where_true bs r.files.items) are ∙ kept_by_marks (λ (f : FileLineModel). has_path pairs f.path) r.files.items) is
+part_of_pairs pairs r part marks are is = grind (arith, common_steps, kept_by_marks)
 
 pub kept_parts : (kinds : ChangeKinds) (n : ℕ) (old new old_part new_part : Report) (olds news : List FileLineModel)
     (old_marks new_marks : List Bool) → false ≡ are_all_changes kinds → olds ≡ old.files.items → news ≡ new.files.items
     → AreMarked kinds n olds news old_marks new_marks → IsPartWith (items_where_true old_marks old.files.items) old old_part
     → IsPartWith (items_where_true new_marks new.files.items) new new_part → AreKeptParts kinds n old new old_part new_part
 kept_parts kinds n old new old_part new_part olds news old_marks new_marks some of_old of_new are kept_old kept_new =
-    let marked : AreMarked kinds n old.files.items new.files.items old_marks new_marks =
-    subst (λ (fs : List FileLineModel). AreMarked kinds n fs new.files.items old_marks new_marks) of_old
-    (subst (λ (fs : List FileLineModel). AreMarked kinds n olds fs old_marks new_marks) of_new are) in
-    let pairs : List FileChangeModel = filter (keeps_change kinds n) marked.pairs in
-    subst (λ b. MatchBool b ((old_part ≡ old) × (new_part ≡ new)) (AreParts kinds n old new old_part new_part)) some (record {
-      pairs = marked.pairs;
-      are_pairs = marked.are_pairs;
-      old_kept = part_of_pairs pairs old old_part old_marks marked.of_olds kept_old;
-      new_kept = part_of_pairs pairs new new_part new_marks marked.of_news kept_new;
-    })
+    grind (arith, common_steps, part_of_pairs)

@@ -1,6 +1,6 @@
 -- Two reports have only one comparison.
-use Rattle.std.proofs.Common.{◌≡◌, ℕ, Bool, true, false, not, ◌&&◌, ◌||◌, List, [], ◌∷◌, map, Option, Some, None, refl, sym, ◌∙◌, ap}
-use Rattle.std.proofs.{Common.subst, lemmas.{Cmp.{nat_list_cmp_total, tied_itself}, List.Elements.recursion_from_All}}
+use Rattle.std.proofs.Common.{arith, ◌≡◌, ℕ, Bool, true, false, not, ◌&&◌, ◌||◌, List, [], ◌∷◌, map, Option, Some, None, refl, sym, ◌∙◌}
+use Rattle.std.proofs.{Common.ap, lemmas.{Grind.common_steps, Cmp.{nat_list_cmp_total, tied_itself}, List.Elements.recursion_from_All}}
 use Rattle.std.proofs.lemmas.Map.Lookups.{CmpEqualImpliesEq, exact_bytes}
 use Rattle.std.specs.{Cmp.IsTotalOrder, List.{AllByRecursion, list_any, Sorted.IsStrictlySortedBy}, Ordering.{eq_by_cmp, is_eq}}
 use Rattle.std.specs.{Ordering.ordering_reverse, declared.cmp.Ordering.{Ordering, TheVariants.{Less, Equal, Greater}}}
@@ -44,18 +44,10 @@ module _ {K : Type 0} (cmp : K → K → Ordering) (total : IsTotalOrder cmp) (e
 
   without_first : (k : K) (test : K → Bool) (ks : List K) → Below cmp k ks
       → list_any (λ j. test j && not (eq_by_cmp cmp k j)) (k ∷ ks) ≡ list_any test ks
-  without_first k test ks below =
-      ap (λ o. (test k && not (is_eq o)) || list_any (λ j. test j && not (eq_by_cmp cmp k j)) ks) (tied_itself total k)
-      ∙ ap (λ b. b || list_any (λ j. test j && not (eq_by_cmp cmp k j)) ks) (with_false (test k)) ∙ others_alike k test ks below
-    where
-      with_false : (b : Bool) → (b && false) ≡ false
-      with_false true = refl
-      with_false false = refl
+  without_first k test ks below = grind (arith, common_steps, tied_itself, others_alike)
 
   not_less : (k j : K) (ks js : List K) → Below cmp j js → HaveSame (k ∷ ks) (j ∷ js) → cmp k j ≡ Less → {A : Type 0} → A
-  not_less k j ks js below same less =
-      let there : true ≡ false = sym (is_first k ks) ∙ same (eq_by_cmp cmp k) ∙ none_below k (j ∷ js) (less, further k j js less below) in
-      absurd (cc)
+  not_less k j ks js below same less = grind (arith, common_steps, is_first, none_below, further)
 
   first_same : (k j : K) (ks js : List K) → Below cmp k ks → Below cmp j js → HaveSame (k ∷ ks) (j ∷ js) → (o : Ordering) → cmp k j ≡ o
       → k ≡ j
@@ -109,13 +101,7 @@ IsRow olds news r = OldOf olds r × NewOf news r
 -- a row is its key and its sums
 same_row : (olds news : List ShownRowModel) (a b : ChangedRowModel) → changed_key a ≡ changed_key b → IsRow olds news a
     → IsRow olds news b → a ≡ b
-same_row olds news a b key is_a is_b =
-    let old : a.old_sums ≡ b.old_sums = is_a.0 ∙ ap (λ k. sums_at k olds) key ∙ sym is_b.0 in
-    let new : a.new_row.sums ≡ b.new_row.sums = is_a.1 ∙ ap (λ k. sums_at k news) key ∙ sym is_b.1 in
-    λ i. record {
-      new_row = record { directory = (key i).directory; key = (key i).key; sums = new i };
-      old_sums = old i;
-    }
+same_row olds news a b key is_a is_b = grind (arith, common_steps)
 
 one_of_rows : RowsOnceLaw
 one_of_rows olds news rows others a b =
@@ -148,12 +134,7 @@ IsFile olds news c = OldAt olds c × NewAt news c
 
 same_file : (olds news : List FileLineModel) → AreApart (map file_path olds) → AreApart (map file_path news) → (a b : FileChangeModel)
     → changed_path a ≡ changed_path b → IsFile olds news a → IsFile olds news b → a ≡ b
-same_file olds news olds_apart news_apart a b path is_a is_b =
-    let old : a.old_file ≡ b.old_file = one_file olds (changed_path b) a.old_file b.old_file olds_apart
-    (subst (λ p. IsFileAt olds p a.old_file) path is_a.0) is_b.0 in
-    let new : a.new_file ≡ b.new_file = one_file news (changed_path b) a.new_file b.new_file news_apart
-    (subst (λ p. IsFileAt news p a.new_file) path is_a.1) is_b.1 in
-    λ i. record { old_file = old i; new_file = new i }
+same_file olds news olds_apart news_apart a b path is_a is_b = grind (arith, common_steps, one_file)
 
 one_of_files : FilesOnceLaw
 one_of_files olds news files others olds_apart news_apart a b =

@@ -1,8 +1,8 @@
 -- Rows are in a total order by a change and their keys, and files by a change and their paths.
+use Rattle.std.proofs.{Common.arith, lemmas.{Grind.common_steps, Cmp.{back_total, nat_cmp_total, nat_list_cmp_total, on_total, then_total}}}
+use Rattle.std.proofs.lemmas.List.Sorted.{ranks_by}
 use Rattle.std.specs.{Cmp.{IsTotalOrder, IsStrictWeakOrder}, Ordering.is_lt}
-use Rattle.std.proofs.lemmas.{Cmp.{back_total, nat_cmp_total, nat_list_cmp_total, on_total, then_total}, List.Sorted.ranks_by}
-use Rattle.lc_changes.specs.{Changes.{ChangedRowModel, change_cmp, changed_key, row_change}, FileChanges.{FileChangeModel, changed_path}}
-use Rattle.lc_changes.specs.FileChanges.{file_change, file_change_cmp}
+use Rattle.lc_changes.specs.{Changes.{ChangedRowModel, change_cmp, changed_key, row_change}, FileChanges.{FileChangeModel, file_change_cmp}}
 use Rattle.lc_rows.proofs.SameKeys.{row_key_cmp_total}
 use Rattle.lc_sheet.specs.declared.column.Number.{Number}
 
@@ -15,9 +15,7 @@ pub changes_rank : (n : Number) → IsStrictWeakOrder (λ (a : ChangedRowModel) 
 changes_rank n = ranks_by (change_cmp_total n) (λ (r : ChangedRowModel). r)
 
 file_change_cmp_total : (n : Number) → IsTotalOrder (file_change_cmp n)
-file_change_cmp_total n =
-    then_total (on_total (λ (c : FileChangeModel). file_change n c) (back_total nat_cmp_total))
-    (on_total changed_path nat_list_cmp_total)
+file_change_cmp_total n = grind (arith, common_steps, then_total, on_total, back_total, nat_cmp_total, nat_list_cmp_total)
 
 -- and files by theirs
 pub file_changes_rank : (n : Number) → IsStrictWeakOrder (λ (a : FileChangeModel) (b : FileChangeModel). is_lt (file_change_cmp n a b))

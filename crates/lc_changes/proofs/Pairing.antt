@@ -1,6 +1,6 @@
 -- Two lists in the order of keys, set side by side.
-use Rattle.std.proofs.Common.{◌≡◌, List, [], ◌∷◌, ◌++◌, map, Some, None, refl, sym, ◌∙◌, ap, subst, append-nil, append_assoc}
-use Rattle.std.proofs.lemmas.{List.{map_push, Elements.{All-cons, All-nil}}, Map.Lookups.CmpEqualImpliesEq}
+use Rattle.std.proofs.Common.{arith, ◌≡◌, List, [], ◌∷◌, ◌++◌, map, Some, None, refl, sym, ◌∙◌, ap, subst, append-nil, append_assoc}
+use Rattle.std.proofs.lemmas.{Grind.common_steps, List.{map_push, Elements.{All-cons, All-nil}}, Map.Lookups.CmpEqualImpliesEq}
 use Rattle.std.specs.{Cmp.IsTotalOrder, List.{AllByRecursion, flat_map, Sorted.IsStrictlySortedBy}, Ordering.ordering_reverse}
 use Rattle.std.specs.declared.cmp.Ordering.{Ordering, TheVariants.{Less, Equal, Greater}}
 use Rattle.lc_changes.specs.Pairs.{ArePaired, AreMadeOfPairs, HasOneKey, NextModel, PairModel, added, both, left_of, new_of, next_by}
@@ -122,25 +122,12 @@ module _ {X K : Type 0} (key : X → K) (cmp : K → K → Ordering) (total : Is
   next_at : {L : Type 0} (make : PairModel X → L) (all_olds all_news : List X) (done : List L) (m : NextModel L) (os ns : List X)
       → next_of make key cmp os ns ≡ Some m → IsPairing key cmp make all_olds all_news done os ns
       → IsAfter make all_olds all_news done os ns m
-  next_at make all_olds all_news done m [] [] is pairing = absurd (cc)
-  next_at make all_olds all_news done m (o ∷ os) [] is pairing =
-      subst (IsAfter make all_olds all_news done (o ∷ os) []) (same_next _ m is)
-      (pairing_with key cmp make all_olds all_news done (removed o) os [] tt (first_below o os pairing.olds_rise) tt
-      (rest_rises o os pairing.olds_rise) pairing.news_rise pairing)
-  next_at make all_olds all_news done m [] (n ∷ ns) is pairing =
-      subst (IsAfter make all_olds all_news done [] (n ∷ ns)) (same_next _ m is)
-      (pairing_with key cmp make all_olds all_news done (added n) [] ns tt tt (first_below n ns pairing.news_rise)
-      pairing.olds_rise (rest_rises n ns pairing.news_rise) pairing)
-  next_at make all_olds all_news done m (o ∷ os) (n ∷ ns) is pairing =
-      subst (IsAfter make all_olds all_news done (o ∷ os) (n ∷ ns)) (same_next _ m is)
-      (next_with make all_olds all_news done o os n ns (cmp (key o) (key n)) refl pairing)
+  next_at make all_olds all_news done m os ns is pairing =
+      grind (arith, common_steps, same_next, pairing_with, first_below, rest_rises, next_with)
 
   pub pairing_next : {L : Type 0} (make : PairModel X → L) (all_olds all_news : List X) (done after : List L) (olds news : List X)
       (m : NextModel L) (olds_left news_left : List X) → next_of make key cmp olds news ≡ Some m → after ≡ done ++ m.line ∷ []
       → olds_left ≡ left_of m.from_old olds → news_left ≡ left_of m.from_new news
       → IsPairing key cmp make all_olds all_news done olds news → IsPairing key cmp make all_olds all_news after olds_left news_left
   pairing_next make all_olds all_news done after olds news m olds_left news_left next more of_olds of_news so_far =
-      subst (λ l. IsPairing key cmp make all_olds all_news l olds_left news_left) (sym more)
-      (subst (λ l. IsPairing key cmp make all_olds all_news (done ++ m.line ∷ []) l news_left) (sym of_olds)
-      (subst (λ l. IsPairing key cmp make all_olds all_news (done ++ m.line ∷ []) (left_of m.from_old olds) l) (sym of_news)
-      (next_at make all_olds all_news done m olds news next so_far)))
+      grind (arith, common_steps, next_at)

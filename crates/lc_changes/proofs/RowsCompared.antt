@@ -1,10 +1,10 @@
 -- Rows that are set side by side have the sums of their keys.
-use Rattle.std.proofs.Common.{◌≡◌, Bool, ◌||◌, List, [], ◌∷◌, map, refl, sym, ◌∙◌, ap, subst, zero-add}
+use Rattle.std.proofs.{Common.{arith, ◌≡◌, Bool, ◌||◌, List, [], ◌∷◌, map, refl, sym, ◌∙◌, ap, subst, zero-add}, lemmas.Grind.common_steps}
 use Rattle.std.proofs.lemmas.List.Elements.{All-from_recursion, All-map, All-weaker, recursion_from_All}
 use Rattle.std.specs.List.{All, AllByRecursion, flat_map, list_any, Sorted.IsStrictlySortedBy}
 use Rattle.lc_changes.proofs.Sides.{have_their_keys, keys_of_pairs, new_keyed, old_keyed}
 use Rattle.lc_changes.specs.{Changes.{ChangedRowModel, AreCompared, changed_key, row_of_pair, sums_at}, Pairs.{AreMadeOfPairs, HasOneKey}}
-use Rattle.lc_changes.specs.Pairs.{PairModel, added, both, new_of, old_of, pair_key, removed}
+use Rattle.lc_changes.specs.Pairs.{PairModel, new_of, old_of, pair_key}
 use Rattle.lc_level.proofs.AskedPaths.{list_any-map}
 use Rattle.lc_level.specs.Level.{FileLineModel}
 use Rattle.lc_rows.proofs.SameKeys.{row_key_cmp_total}
@@ -18,23 +18,17 @@ sums_of_one : (r : ShownRowModel) → sums_of_shown (r ∷ []) ≡ r.sums
 sums_of_one r = same_sums _ _ (zero-add _) (zero-add _) (zero-add _) (zero-add _)
 
 key_of_row : (p : PairModel ShownRowModel) → changed_key (row_of_pair p) ≡ pair_key row_key p
-key_of_row (removed o) = refl
-key_of_row (added n) = refl
-key_of_row (both o n) = refl
+key_of_row p = grind (arith, common_steps)
 
 keys_of_rows : (ps : List (PairModel ShownRowModel)) → map changed_key (map row_of_pair ps) ≡ map (pair_key row_key) ps
 keys_of_rows [] = refl
 keys_of_rows (p ∷ ps) = λ i. key_of_row p i ∷ keys_of_rows ps i
 
 old_sums_are : (p : PairModel ShownRowModel) → (row_of_pair p).old_sums ≡ sums_of_shown (old_of p)
-old_sums_are (removed o) = sym (sums_of_one o)
-old_sums_are (added n) = refl
-old_sums_are (both o n) = sym (sums_of_one o)
+old_sums_are p = grind (arith, common_steps, sums_of_one)
 
 new_sums_are : (p : PairModel ShownRowModel) → (row_of_pair p).new_row.sums ≡ sums_of_shown (new_of p)
-new_sums_are (removed o) = refl
-new_sums_are (added n) = sym (sums_of_one n)
-new_sums_are (both o n) = sym (sums_of_one n)
+new_sums_are p = grind (arith, common_steps, sums_of_one)
 
 -- the sums of the key of a pair
 sums_are : (parts rows : List ShownRowModel) (side : PairModel ShownRowModel → List ShownRowModel) (sums : ChangedRowModel → Sums)
@@ -83,7 +77,4 @@ rows_compared old_parts new_parts olds news rows old_added new_added made =
 -- the same parts and rows, under other names
 pub added_as : (by : Columns) (rs rs_is : List TallyRowModel) (fs fs_is : List FileLineModel) (rows rows_is : List ShownRowModel)
     → rs ≡ rs_is → fs ≡ fs_is → rows_is ≡ rows → AreAddedUp (parts_of by rs fs) rows → AreAddedUp (parts_of by rs_is fs_is) rows_is
-added_as by rs rs_is fs fs_is rows rows_is same_rs same_fs same_rows adds_up =
-    subst (λ (l : List TallyRowModel). AreAddedUp (parts_of by l fs_is) rows_is) same_rs
-    (subst (λ (l : List FileLineModel). AreAddedUp (parts_of by rs l) rows_is) same_fs
-    (subst (AreAddedUp (parts_of by rs fs)) (sym same_rows) adds_up))
+added_as by rs rs_is fs fs_is rows rows_is same_rs same_fs same_rows adds_up = grind (arith, common_steps)

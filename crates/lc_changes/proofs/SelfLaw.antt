@@ -1,18 +1,17 @@
 -- A report does not differ from itself.
-use Rattle.std.proofs.Common.{◌≡◌, ℕ, ◌==◌, Bool, true, false, cond, if◌then◌else◌, suc, zero, not, ◌&&◌, ◌||◌, List, [], ◌∷◌, map}
-use Rattle.std.proofs.{Common.{length, Option, Some, None, refl, sym, ◌∙◌, ap, subst, arith, ⊎_elim, IsPermutation}, Math.Seq.take-nil}
-use Rattle.std.proofs.lemmas.Cmp.{nat_list_cmp_total, tied_itself}
+use Rattle.std.proofs.lemmas.{Grind.common_steps, Cmp.{nat_list_cmp_total, tied_itself}, List.Elements.recursion_from_All}
 use Rattle.std.proofs.lemmas.List.{nil_from_length}
 use Rattle.std.proofs.lemmas.List.Elements.{All-contains, All-from_recursion, Contains-append_cases, Contains-push_cases}
-use Rattle.std.proofs.lemmas.List.Elements.{recursion_from_All}
 use Rattle.std.proofs.lemmas.List.{Folds.list_any_at, Sorted.length_permutation}
+use Rattle.std.proofs.Common.{◌≡◌, ℕ, ◌==◌, Bool, true, false, cond, if◌then◌else◌, not, ◌&&◌, ◌||◌, List, [], ◌∷◌, map, length, Option}
+use Rattle.std.proofs.{Common.{Some, None, refl, sym, ◌∙◌, ap, subst, arith, IsPermutation}, Math.Seq.take-nil}
 use Rattle.std.specs.{Cmp.nat_eq_equiv, List.{AllByRecursion, Contains, IsDistinct, filter, list_any}, Ordering.is_eq}
 use Rattle.lc_changes.specs.{ChangeColumns.{changed_columns, changed_sums_columns, file_change_columns}, ChangeSheets.comparison_of}
 use Rattle.lc_changes.specs.{ChangeSheets.{form_by, other_sums, total_sums}, ChangeValues.{ChangedSumsModel, changed_sums_value}}
 use Rattle.lc_changes.specs.{ChangeValues.{changed_value, file_change_value}, Changes.{ChangedRowModel, AreChangesSorted, AreCompared}}
-use Rattle.lc_changes.specs.{Changes.{changed_key, differs, kept_rows, sums_at}, FileChanges.{FileChangeModel, AreFileChangesSorted}}
-use Rattle.lc_changes.specs.FileChanges.{AreFilesChanged, AreFilesCompared, IsFileAt, are_same_counts, changed_path, compared_key}
-use Rattle.lc_changes.specs.{FileChanges.{file_path, is_changed, same_path, sides_differ}, Laws.{SelfLaw, has_no_line}}
+use Rattle.lc_changes.specs.{Changes.{differs, kept_rows}, FileChanges.{FileChangeModel, AreFileChangesSorted, AreFilesChanged}}
+use Rattle.lc_changes.specs.FileChanges.{AreFilesCompared, IsFileAt, are_same_counts, file_path, is_changed, same_path, sides_differ}
+use Rattle.lc_changes.specs.Laws.{SelfLaw, has_no_line}
 use Rattle.lc_level.specs.Level.{FileLineModel}
 use Rattle.lc_rows.proofs.SameKeys.{row_key_cmp_total}
 use Rattle.lc_rows.specs.{RowKeys.ShownRowModel, Sheets.{section_of, with_attributes}, ShownRows.parts_of, Views.{first_of, rest_of}}
@@ -29,11 +28,7 @@ four : (a b c d : Bool) → a ≡ true → b ≡ true → c ≡ true → d ≡ t
 four a b c d e f g h = λ i. not (e i && f i && g i && h i)
 
 no_change : (r : ChangedRowModel) → r.old_sums ≡ r.new_row.sums → differs r ≡ false
-no_change r same =
-    ap (λ (s : Sums). not (s.files == r.new_row.sums.files && s.lines == r.new_row.sums.lines && s.blank == r.new_row.sums.blank
-    && s.bytes == r.new_row.sums.bytes)) same
-    ∙ four _ _ _ _ (same_number r.new_row.sums.files) (same_number r.new_row.sums.lines) (same_number r.new_row.sums.blank)
-    (same_number r.new_row.sums.bytes)
+no_change r same = grind (arith, common_steps, four, same_number)
 
 -- where no element passes, none is kept
 none_kept : {X : Type 0} (test : X → Bool) (xs : List X) → AllByRecursion (λ x. test x ≡ false) xs → filter test xs ≡ []
@@ -51,10 +46,7 @@ both_hold P Q R give (x ∷ xs) ps qs = (give x ps.0 qs.0, both_hold P Q R give 
 
 rows_same : (parts : List ShownRowModel) (rows : List ChangedRowModel) → AreCompared parts parts rows
     → AllByRecursion (λ r. differs r ≡ false) rows
-rows_same parts rows compared =
-    both_hold (λ (r : ChangedRowModel). r.old_sums ≡ sums_at (changed_key r) parts)
-    (λ (r : ChangedRowModel). r.new_row.sums ≡ sums_at (changed_key r) parts) (λ r. differs r ≡ false)
-    (λ r old new. no_change r (old ∙ sym new)) rows (recursion_from_All _ rows compared.old) (recursion_from_All _ rows compared.new)
+rows_same parts rows compared = grind (arith, common_steps, both_hold, no_change, recursion_from_All)
 
 none_moved : {X : Type 0} (xs ys : List X) → xs ≡ [] → IsPermutation xs ys → ys ≡ []
 none_moved xs ys none moved = nil_from_length ys (length_permutation xs ys moved ∙ ap length none)
@@ -73,9 +65,7 @@ none_first None = refl
 none_first (Some n) = take-nil n
 
 none_left : {X : Type 0} (top : Option ℕ) → rest_of {X = X} top [] ≡ []
-none_left None = refl
-none_left (Some zero) = refl
-none_left (Some (suc n)) = refl
+none_left top = grind (arith, common_steps)
 
 -- ---- files
 
@@ -85,9 +75,7 @@ unmapped P f (x ∷ xs) all = (all.0, unmapped P f xs all.1)
 
 -- the first of some elements, or one of the others
 first_or_other : {X : Type 0} (x y : X) (xs : List X) (A : Type 0) → (x ≡ y → A) → (Contains xs y → A) → Contains (x ∷ xs) y → A
-first_or_other x y xs A first other has =
-    ⊎_elim (λ one. ⊎_elim (λ none. absurd (omega (arith, none.1))) first (Contains-push_cases [] x y one)) other
-    (Contains-append_cases (x ∷ []) xs y has)
+first_or_other x y xs A first other has = grind (arith, common_steps)
 
 -- no other file has the path of the first
 not_apart : (f g : FileLineModel) (fs : List FileLineModel) → AllByRecursion (λ y. is_eq (bytes_cmp f.path y) ≡ false) (map file_path fs)
@@ -115,19 +103,12 @@ one_at (f ∷ fs) a b apart has_a has_b same =
     has_a
 
 is_itself : (n : ℕ) (f : FileLineModel) → not (are_same_counts n f f) ≡ false
-is_itself n f =
-    four _ _ _ _ (ap is_eq (tied_itself row_key_cmp_total (compared_key n f))) (same_number f.count.lines) (same_number f.count.blank)
-    (same_number f.count.bytes)
+is_itself n f = grind (arith, common_steps, four, tied_itself, row_key_cmp_total, same_number)
 
 -- a file that a report has at a path is not missing there
 pub not_missing : (fs : List FileLineModel) (path : List ℕ) (f : FileLineModel) → Contains fs f → f.path ≡ path
     → list_any (λ (g : FileLineModel). same_path path g.path) fs ≡ false → {A : Type 0} → A
-not_missing fs path f has is missing =
-    let there : list_any (λ (g : FileLineModel). same_path path g.path) fs ≡ true =
-    list_any_at (λ (g : FileLineModel). same_path path g.path) fs has.0 f has.1
-    (ap (λ (g : FileLineModel). same_path path g.path) has.2 ∙ ap (same_path path) is
-    ∙ ap is_eq (tied_itself nat_list_cmp_total path)) in
-    absurd (cc)
+not_missing fs path f has is missing = grind (arith, common_steps, list_any_at, tied_itself, nat_list_cmp_total)
 
 sides_same : (n : ℕ) (fs : List FileLineModel) (path : List ℕ) (old new : Option FileLineModel) → AreApart (map file_path fs)
     → IsFileAt fs path old → IsFileAt fs path new → sides_differ n old new ≡ false
@@ -139,12 +120,7 @@ sides_same n fs path (Some a) (Some b) apart old new =
 
 files_same : (n : ℕ) (fs : List FileLineModel) (compared : List FileChangeModel) → AreApart (map file_path fs)
     → AreFilesCompared fs fs compared → filter (is_changed n) compared ≡ []
-files_same n fs compared apart are =
-    none_kept (is_changed n) compared
-    (both_hold (λ (c : FileChangeModel). IsFileAt fs (changed_path c) c.old_file)
-    (λ (c : FileChangeModel). IsFileAt fs (changed_path c) c.new_file) (λ c. is_changed n c ≡ false)
-    (λ c old new. sides_same n fs (changed_path c) c.old_file c.new_file apart old new) compared
-    (recursion_from_All _ compared are.old) (recursion_from_All _ compared are.new))
+files_same n fs compared apart are = grind (arith, common_steps, none_kept, both_hold, sides_same, recursion_from_All)
 
 no_files : (listed : Bool) (n : ℕ) (fs : List FileLineModel) (files : List FileChangeModel) → AreApart (map file_path fs)
     → AreFilesChanged listed n fs fs files → files ≡ []

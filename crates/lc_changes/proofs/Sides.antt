@@ -1,6 +1,6 @@
 -- What lists that are set side by side have of each key.
-use Rattle.std.proofs.Common.{◌≡◌, Bool, true, false, cond, ◌||◌, List, [], ◌∷◌, ◌++◌, map, refl, sym, ◌∙◌, ap, append-nil}
-use Rattle.std.proofs.lemmas.{Cmp.tied_itself, List.Elements.filter-append}
+use Rattle.std.proofs.Common.{arith, ◌≡◌, Bool, true, false, cond, ◌||◌, List, [], ◌∷◌, ◌++◌, map, refl, sym, ◌∙◌, ap, append-nil}
+use Rattle.std.proofs.lemmas.{Grind.common_steps, Cmp.tied_itself, List.Elements.filter-append}
 use Rattle.std.specs.{Cmp.IsTotalOrder, List.{AllByRecursion, filter, flat_map, list_any, Sorted.IsStrictlySortedBy}, Ordering.eq_by_cmp}
 use Rattle.std.specs.{Ordering.{is_eq, ordering_reverse}, declared.cmp.Ordering.{Ordering, TheVariants.Less}}
 use Rattle.lc_changes.proofs.Pairing.{Below}
@@ -65,14 +65,10 @@ module _ {X K : Type 0} (key : X → K) (cmp : K → K → Ordering) (total : Is
     )
 
   pub old_keyed : (p : PairModel X) → HasOneKey key p → HaveKey (pair_key key p) (old_of p)
-  old_keyed (removed x) same = (refl, tt)
-  old_keyed (added y) same = tt
-  old_keyed (both x y) same = (same, tt)
+  old_keyed p same = grind (arith, common_steps)
 
   pub new_keyed : (p : PairModel X) → HasOneKey key p → HaveKey (pair_key key p) (new_of p)
-  new_keyed (removed x) same = tt
-  new_keyed (added y) same = (refl, tt)
-  new_keyed (both x y) same = (refl, tt)
+  new_keyed p same = grind (arith, common_steps)
 
 module _ {X K : Type 0} (key : X → K) (keys : K → Bool) where
   one_side : (a b c : Bool) → (a || (b || c)) ≡ ((a || b) || c)
@@ -80,9 +76,7 @@ module _ {X K : Type 0} (key : X → K) (keys : K → Bool) where
   one_side false b c = refl
 
   other_side : (a b c : Bool) → (a || (b || c)) ≡ (b || (a || c))
-  other_side true true c = refl
-  other_side true false c = refl
-  other_side false b c = refl
+  other_side a b c = grind (arith, common_steps)
 
   both_sides : (a b c : Bool) → (a || (b || c)) ≡ ((a || b) || (a || c))
   both_sides true b c = refl

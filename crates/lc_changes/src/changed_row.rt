@@ -1,7 +1,7 @@
 //! A row of a comparison.
 
 ghost use Rattle.std.specs.Prelude.{◌≡◌};
-ghost use Rattle.lc_changes.specs.Changes.{are_same_sums, differs, distance, row_change, row_of_pair};
+ghost use Rattle.lc_changes.specs.Changes.{are_same_sums, differs, row_change, row_of_pair};
 ghost use Rattle.lc_changes.specs.Pairs.{added, both, removed};
 ghost use Rattle.lc_rows.specs.RowKeys.{row_key, row_with};
 
@@ -42,13 +42,6 @@ fn are_same_sums(a: Sums, b: Sums) -> bool
     ensures { result ≡ are_same_sums a b }
 {
     a.files == b.files && a.lines == b.lines && a.blank == b.blank && a.bytes == b.bytes
-}
-
-/// Returns the distance of two numbers: their difference without its sign.
-pub(crate) fn distance(a: u128, b: u128) -> u128
-    ensures { result ≡ distance a b }
-{
-    if a < b { b - a } else { a - b }
 }
 
 impl<'a> ChangedRow<'a> {
@@ -93,9 +86,7 @@ impl<'a> ChangedRow<'a> {
     pub(crate) fn change(&self, number: Number) -> u128
         ensures { result ≡ row_change number self.now }
     {
-        distance(
-            number_in(number, self.old_sums),
-            number_in(number, self.new_row.sums),
-        )
+        let old = number_in(number, self.old_sums);
+        old.abs_diff(number_in(number, self.new_row.sums))
     }
 }

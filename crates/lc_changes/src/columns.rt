@@ -1,9 +1,8 @@
 //! The columns that each section of a comparison has in each format.
 
-ghost use Rattle.std.specs.Prelude.{◌≡◌, ◌++◌, map, flat_map, IfOk, OnOk};
+ghost use Rattle.std.specs.Prelude.{◌≡◌, ◌++◌, map, IfOk, OnOk};
 ghost use Rattle.lc_changes.specs.ChangeColumns.{changed_columns, changed_numbers, changed_sums_columns, compared_attributes};
-ghost use Rattle.lc_changes.specs.ChangeColumns.{file_change_columns, in_turn, recorded_by_report, recorded_in_turn, with_change};
-ghost use Rattle.lc_changes.specs.ChangeColumns.{with_changes};
+ghost use Rattle.lc_changes.specs.ChangeColumns.{file_change_columns, recorded_in_turn, with_change};
 ghost use Rattle.lc_sheet.specs.declared.column.Column.TheVariants.{New, Old};
 
 use lc_rows::{keeps_columns, push_if, push_keys};
@@ -89,16 +88,6 @@ fn push_with_change(
     push_if(columns, number == percent, Column::Growth(number))
 }
 
-/// Adds the columns of all numbers of the new report and of their changes. The change of one of them is also shown in per cent.
-fn push_with_changes(columns: &mut Vec<Column>, percent: Number) -> Result<(), AllocError>
-    ensures { OnOk result (columns.new.items ≡ columns.old.items ++ with_changes percent) }
-{
-    push_with_change(columns, percent, Number::Files)?;
-    push_with_change(columns, percent, Number::Lines)?;
-    push_with_change(columns, percent, Number::Blank)?;
-    push_with_change(columns, percent, Number::Bytes)
-}
-
 fn push_numbers(
     columns: &mut Vec<Column>,
     format: Format,
@@ -110,7 +99,11 @@ fn push_numbers(
         Format::Tsv | Format::Csv => columns.extend_from_slice(&NUMBERS_IN_TURN),
         Format::Json => columns.extend_from_slice(&NUMBERS_BY_REPORT),
         Format::Table | Format::Markdown => {
-            push_with_changes(columns, sort.unwrap_or(Number::Lines))
+            let percent = sort.unwrap_or(Number::Lines);
+            push_with_change(columns, percent, Number::Files)?;
+            push_with_change(columns, percent, Number::Lines)?;
+            push_with_change(columns, percent, Number::Blank)?;
+            push_with_change(columns, percent, Number::Bytes)
         }
     }
 }
@@ -141,17 +134,6 @@ pub(crate) fn changed_sums_columns(format: Format, rows: &[Column]) -> &[Column]
     }
 }
 
-/// Adds the columns of the first attributes: each in the old report, followed by the same in the new report.
-fn push_attributes_in_turn(columns: &mut Vec<Column>, count: u8) -> Result<(), AllocError>
-    ensures { OnOk result (columns.new.items ≡ columns.old.items ++ flat_map in_turn (compared_attributes count)) }
-{
-    for place in 0..count {
-        let attribute = Compared::Key(Key::Attribute(place));
-        columns.extend_from_slice(&[Column::Old(attribute), Column::New(attribute)])?;
-    }
-    Ok(())
-}
-
 /// Adds the columns of the first attributes in the old report.
 fn push_old_attributes(columns: &mut Vec<Column>, count: u8) -> Result<(), AllocError>
     ensures { OnOk result (columns.new.items ≡ columns.old.items ++ map Old (compared_attributes count)) }
@@ -177,19 +159,11 @@ fn push_new_attributes(columns: &mut Vec<Column>, count: u8) -> Result<(), Alloc
 fn push_values_in_turn(columns: &mut Vec<Column>, attributes: u8) -> Result<(), AllocError>
     ensures { OnOk result (columns.new.items ≡ columns.old.items ++ recorded_in_turn attributes) }
 {
-    push_attributes_in_turn(columns, attributes)?;
+    for place in 0..attributes {
+        let attribute = Compared::Key(Key::Attribute(place));
+        columns.extend_from_slice(&[Column::Old(attribute), Column::New(attribute)])?;
+    }
     columns.extend_from_slice(&VALUES_IN_TURN)
-}
-
-/// Adds the columns of the values of files in records, with those of the first attributes: the values of the old report, and then those of
-/// the new report.
-fn push_values_by_report(columns: &mut Vec<Column>, attributes: u8) -> Result<(), AllocError>
-    ensures { OnOk result (columns.new.items ≡ columns.old.items ++ recorded_by_report attributes) }
-{
-    push_old_attributes(columns, attributes)?;
-    columns.extend_from_slice(&OLD_VALUES)?;
-    push_new_attributes(columns, attributes)?;
-    columns.extend_from_slice(&NEW_VALUES)
 }
 
 /// Makes the columns of a comparison's list of files. In records, files have the directory and the attributes that rows are grouped by.
@@ -217,7 +191,10 @@ pub(crate) fn file_change_columns(
             columns.push(Column::Path)?;
             push_if(&mut columns, by.dir.is_some(), Column::Key(Key::Dir))?;
             columns.extend_from_slice(&[Column::Key(Key::Ext), Column::Change])?;
-            push_values_by_report(&mut columns, by.attributes)?;
+            push_old_attributes(&mut columns, by.attributes)?;
+            columns.extend_from_slice(&OLD_VALUES)?;
+            push_new_attributes(&mut columns, by.attributes)?;
+            columns.extend_from_slice(&NEW_VALUES)?;
         }
         Format::Table | Format::Markdown => columns.extend_from_slice(&READ_FILES)?,
     }

@@ -6,7 +6,6 @@ ghost use Rattle.lc_changes.specs.FileChanges.{is_changed, side_number};
 ghost use Rattle.lc_changes.specs.ChangeValues.{change_word};
 ghost use Rattle.lc_changes.specs.KeptChanges.{keeps_change};
 
-use crate::changed_row::distance;
 use lc_rows::{RowKeyRef, number_of, split_at_top};
 use lc_sheet::{ChangeKinds, Number};
 use lc_walk::FileLine;
@@ -130,9 +129,7 @@ impl<'a> FileChange<'a> {
     pub(crate) fn change(&self, number: Number) -> u128
         ensures { result ≡ file_change number self.now }
     {
-        distance(
-            side_number(number, self.old_file),
-            side_number(number, self.new_file),
-        )
+        let old = side_number(number, self.old_file);
+        old.abs_diff(side_number(number, self.new_file))
     }
 }

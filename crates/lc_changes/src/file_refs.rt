@@ -1,8 +1,7 @@
 //! The files of one report in the order of their paths, each path once.
 
 ghost use Rattle.std.specs.Prelude.{◌≡◌, IfOk};
-ghost use Rattle.std.specs.List.Sorted.{IsPermutation, IsSortedByKey};
-ghost use Rattle.lc_changes.specs.FileChanges.{AreByPath, file_path};
+ghost use Rattle.lc_changes.specs.FileChanges.{AreByPath};
 ghost use Rattle.lc_tree.specs.ByteOrder.{bytes_cmp};
 
 use lc_walk::FileLine;
@@ -40,24 +39,6 @@ impl<'a> FileRef<'a> {
     }
 }
 
-fn all_refs<'a>(alloc: Global, files: &'a [FileLine]) -> Result<Vec<FileRef<'a>>, AllocError>
-    ensures { IfOk result (λ refs. refs.items ≡ files.entry.now) }
-{
-    let mut refs = Vec::with_capacity(alloc, files.len())?;
-    for file in files {
-        refs.push(FileRef { file })?;
-    }
-    Ok(refs)
-}
-
-/// Sorts files by their paths, and keeps only one of the files with the same path.
-fn unite(refs: &mut Vec<FileRef<'_>>)
-    ensures { AreByPath refs.old.items refs.new.items }
-{
-    refs.sort_unstable_by(|a, b| a.compare(b));
-    refs.dedup_by(|a, b| a.compare(b).is_eq());
-}
-
 /// Returns the files of a report in the order of their paths, each path once.
 ///
 /// The files of a walk's report are already in this order. Sorting such files takes time in proportion to their number.
@@ -67,7 +48,11 @@ pub(crate) fn by_path<'a>(
 ) -> Result<Vec<FileRef<'a>>, AllocError>
     ensures { IfOk result (λ refs. AreByPath files.entry.now refs.items) }
 {
-    let mut refs = all_refs(alloc, files)?;
-    unite(&mut refs);
+    let mut refs = Vec::with_capacity(alloc, files.len())?;
+    for file in files {
+        refs.push(FileRef { file })?;
+    }
+    refs.sort_unstable_by(|a, b| a.compare(b));
+    refs.dedup_by(|a, b| a.compare(b).is_eq());
     Ok(refs)
 }

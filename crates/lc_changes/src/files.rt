@@ -1,6 +1,6 @@
 //! The files of two reports side by side.
 
-ghost use Rattle.std.specs.Prelude.{◌≡◌, Some, None, IfOk, map, filter};
+ghost use Rattle.std.specs.Prelude.{◌≡◌, Some, None, IfOk, map};
 ghost use Rattle.std.specs.List.Sorted.{IsStrictlySortedBy};
 ghost use Rattle.std.specs.Option.{MatchOption};
 ghost use Rattle.lc_changes.specs.FileChanges.{AreFilesChanged, AreFilesCompared, file_of_pair, file_path, is_changed};
@@ -95,13 +95,6 @@ pub(crate) fn compared_files<'a>(
     Ok(files)
 }
 
-/// Removes the files that are the same in both reports.
-fn keep_changed(attributes: u8, files: &mut Vec<FileChange<'_>>)
-    ensures { files.new.items ≡ filter (is_changed attributes) files.old.items }
-{
-    files.retain(|file| file.is_changed(attributes));
-}
-
 /// Returns the files that differ between two reports, in the order of their paths. Their first `attributes` attributes are compared too.
 /// Returns no files if `listed` is false.
 pub(crate) fn changed_files<'a>(
@@ -117,6 +110,6 @@ pub(crate) fn changed_files<'a>(
         return Ok(Vec::new(alloc));
     }
     let mut files = compared_files(alloc, &old.files, &new.files)?;
-    keep_changed(attributes, &mut files);
+    files.retain(|file| file.is_changed(attributes));
     Ok(files)
 }

@@ -5,7 +5,7 @@ ghost use Rattle.std.specs.List.{list_any};
 ghost use Rattle.lc_changes.specs.ChangeSheets.{AreChangesOf, HasFilesFor, comparison_of, form_by, other_sums, some_differ};
 ghost use Rattle.lc_changes.specs.Changes.{differs};
 ghost use Rattle.lc_changes.specs.FileChanges.{is_changed};
-ghost use Rattle.lc_rows.specs.Views.{first_of, rest_of};
+ghost use Rattle.lc_rows.specs.Views.{first_of};
 
 use crate::changed_row::ChangedRow;
 use crate::columns::{changed_columns, changed_sums_columns, file_change_columns};
@@ -92,32 +92,12 @@ fn some_differ(attributes: u8, rows: &[ChangedRow<'_>], files: &[FileChange<'_>]
     some_rows_differ(rows) || some_files_differ(attributes, files)
 }
 
-/// Makes the line of the sums over the rows after the first `top`, which are cut off. Returns no line if no row is cut off.
-fn cut_sums(
-    alloc: Global,
-    top: Option<u32>,
-    rows: &[ChangedRow<'_>],
-) -> Result<Vec<ChangedSums>, AllocError>
-    ensures { IfOk result (λ lines. lines.items ≡ other_sums (rest_of top rows.now)) }
-{
-    let (_, rest) = split_at_top(top, rows);
-    other_sums(alloc, rest)
-}
-
-/// Cuts off all rows after the first `top`. If `top` is `None`, no row is cut off.
-fn cut_rows(top: Option<u32>, rows: &mut Vec<ChangedRow<'_>>)
-    ensures { rows.new.items ≡ first_of top rows.old.items }
+/// Cuts off all lines after the first `top`. If `top` is `None`, no line is cut off.
+fn cut<T: Drop>(top: Option<u32>, lines: &mut Vec<T>)
+    ensures { lines.new.items ≡ first_of top lines.old.items }
 {
     if let Some(most) = top {
-        rows.truncate(most as usize);
-    }
-}
-
-fn cut_files(top: Option<u32>, files: &mut Vec<FileChange<'_>>)
-    ensures { files.new.items ≡ first_of top files.old.items }
-{
-    if let Some(most) = top {
-        files.truncate(most as usize);
+        lines.truncate(most as usize);
     }
 }
 
@@ -177,9 +157,10 @@ impl<'a> ShownChanges<'a> {
     {
         let mut rows = rows;
         let mut files = files;
-        let others = cut_sums(alloc, options.top, &rows)?;
-        cut_rows(options.top, &mut rows);
-        cut_files(options.top, &mut files);
+        let (_, cut_rows) = split_at_top(options.top, &rows);
+        let others = other_sums(alloc, cut_rows)?;
+        cut(options.top, &mut rows);
+        cut(options.top, &mut files);
         let shown = ShownChanges {
             format: options.format,
             form: form_by(options.format, options.by),

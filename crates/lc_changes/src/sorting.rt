@@ -1,7 +1,6 @@
 //! The order of the rows and of the files of a comparison.
 
-ghost use Rattle.std.specs.Prelude.{◌≡◌, filter};
-ghost use Rattle.std.specs.List.Sorted.{IsPermutation, IsSorted};
+ghost use Rattle.std.specs.Prelude.{◌≡◌};
 ghost use Rattle.lc_changes.specs.Changes.{AreChangesSorted, change_cmp, differs, kept_rows};
 ghost use Rattle.lc_changes.specs.FileChanges.{AreFileChangesSorted, file_change_cmp};
 
@@ -19,35 +18,24 @@ fn compare_rows(by: Number, a: &ChangedRow<'_>, b: &ChangedRow<'_>) -> Ordering
     }
 }
 
-fn sort_rows_by(by: Number, rows: &mut Vec<ChangedRow<'_>>)
-    ensures same { IsPermutation rows.old.items rows.new.items }
-    ensures order { IsSorted (change_cmp by) rows.new.items }
-{
-    rows.sort_unstable_by(|a, b| compare_rows(by, a, b));
-}
-
 /// Sorts rows by the change of a number, the largest change first. If `by` is `None`, the rows stay in the order of their keys.
 pub(crate) fn sort_rows(by: Option<Number>, rows: &mut Vec<ChangedRow<'_>>)
     ensures { AreChangesSorted by rows.old.items rows.new.items }
 {
-    if let Some(number) = by {
-        sort_rows_by(number, rows);
-    }
-}
-
-fn keep_changed(rows: &mut Vec<ChangedRow<'_>>)
-    ensures { rows.new.items ≡ filter differs rows.old.items }
-{
-    rows.retain(|row| row.differs());
+    let Some(number) = by else {
+        return;
+    };
+    rows.sort_unstable_by(|a, b| compare_rows(number, a, b));
 }
 
 /// Removes the rows in which no number changed. If `all` is true, no row is removed.
 pub(crate) fn keep_rows(all: bool, rows: &mut Vec<ChangedRow<'_>>)
     ensures { rows.new.items ≡ kept_rows all rows.old.items }
 {
-    if !all {
-        keep_changed(rows);
+    if all {
+        return;
     }
+    rows.retain(|row| row.differs());
 }
 
 fn compare_files(by: Number, a: &FileChange<'_>, b: &FileChange<'_>) -> Ordering
@@ -59,18 +47,12 @@ fn compare_files(by: Number, a: &FileChange<'_>, b: &FileChange<'_>) -> Ordering
     }
 }
 
-fn sort_files_by(by: Number, files: &mut Vec<FileChange<'_>>)
-    ensures same { IsPermutation files.old.items files.new.items }
-    ensures order { IsSorted (file_change_cmp by) files.new.items }
-{
-    files.sort_unstable_by(|a, b| compare_files(by, a, b));
-}
-
 /// Sorts files by the change of a number, the largest change first. If `by` is `None`, the files stay in the order of their paths.
 pub(crate) fn sort_files(by: Option<Number>, files: &mut Vec<FileChange<'_>>)
     ensures { AreFileChangesSorted by files.old.items files.new.items }
 {
-    if let Some(number) = by {
-        sort_files_by(number, files);
-    }
+    let Some(number) = by else {
+        return;
+    };
+    files.sort_unstable_by(|a, b| compare_files(number, a, b));
 }

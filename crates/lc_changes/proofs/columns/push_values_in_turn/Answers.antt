@@ -1,5 +1,5 @@
 use Rattle.lc_changes.proofs.Attributes.{grown, in_turn_more}
-use Rattle.lc_changes.proofs.columns.push_attributes_in_turn.Goals as goal
+use Rattle.lc_changes.proofs.columns.push_values_in_turn.Goals as goal
 
 pub loop-place-preserved : goal.loop-place-preserved
 loop-place-preserved c =
