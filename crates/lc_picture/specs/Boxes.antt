@@ -163,8 +163,8 @@ closing = markup (codes "</div></details>\n")
 abbrev pub closings : ℕ → List Piece
 closings n = replicate n closing
 
--- the number of the rest of a directory, whose box these boxes follow: the directory's number without those of the boxes right in it. A file
--- has no rest
+-- the number of the rest of a directory, whose box these boxes follow: the directory's number without those of the boxes right in it. A
+-- file has no rest
 abbrev pub rest_in : Number → BoxModel → List BoxModel → ℕ
 rest_in by b bs = if b.is_file then 0 else left_beside by b.depth (number_in by b.sums) bs
 

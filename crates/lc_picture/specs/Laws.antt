@@ -1,6 +1,7 @@
 -- The statements of the laws about pages.
 use Rattle.std.specs.Prelude.{◌≡◌, ◌+◌, ◌*◌, ◌-◌, ℕ, nat_eq, Bool, true, false, if◌then◌else◌, List, [], ◌∷◌, ◌++◌, map, flat_map, codes}
-use Rattle.std.specs.{Prelude.{◌==◌, ◌<◌, ◌≤◌, ⊤, bytes_eq, length, nat_le, nat_lt, take, Option, Some, None}, List.{Contains, filter, list_any}}
+use Rattle.std.specs.Prelude.{◌==◌, ◌<◌, ◌≤◌, ⊤, bytes_eq, length, nat_le, nat_lt, take, Option, Some, None}
+use Rattle.std.specs.List.{Contains, filter, list_any}
 use Rattle.std.specs.List.{slice_index_or}
 use Rattle.lc_rows.specs.{Directories.directory_of, RowKeys.ShownRowModel, SheetLaws.first_number, Sheets.sheet_of, ShownRows.AreShown}
 use Rattle.lc_rows.specs.{ShownRows.number_in, Views.ViewModel}
@@ -121,8 +122,8 @@ shown_of_boxes scale [] = []
 shown_of_boxes scale (b ∷ bs) =
     shown_of_box scale b (rest_in scale.by b bs) ++ shown_of_boxes scale bs
 
--- a page shows its title, the chosen files, the sums over all files, what could not be read, the drawn directories and files with their sums
--- and shares, and the names and the numbers of its sheet's rows and of the sums over the others: each once, in turn, and nothing else
+-- a page shows its title, the chosen files, the sums over all files, what could not be read, the drawn directories and files with their
+-- sums and shares, and the names and the numbers of its sheet's rows and of the sums over the others: each once, in turn, and nothing else
 abbrev pub ShownLaw : Type 0
 ShownLaw =
     (named chosen : List ℕ) (scale : Scale) (faults : List FaultLineModel) (s : SheetModel) (boxes : List BoxModel)

@@ -1,4 +1,4 @@
--- The pieces of a page. Names are in pieces of their own, so all other pieces depend on numbers alone.
+-- The pieces of a page. Names are in pieces of their own, so all other pieces have only fixed text, words and numbers.
 use Rattle.std.specs.Prelude.{ℕ, List, [], ◌∷◌, flat_map, codes, decimal}
 use Rattle.lc_formats.specs.{CellWords.with_commas, Shares.{rounded_parts, share_word}}
 use Rattle.lc_sheet.specs.declared.column.Number.{Number, TheVariants.{Files, Lines, Blank, Bytes}}

@@ -3,7 +3,6 @@
 ghost use Rattle.std.specs.Prelude.{◌≡◌, ◌+◌, ◌-◌, ◌==◌, if◌then◌else◌, ◌++◌, IfOk, OnOk, min};
 ghost use Rattle.lc_rows.specs.ShownRows.{number_in};
 ghost use Rattle.lc_picture.specs.Boxes.{boxes_in, closings, label, left_beside, next_box, opening, rest_in, tag, tag_end};
-ghost use Rattle.lc_picture.specs.Boxes.{title_of};
 ghost use Rattle.lc_picture.specs.Pieces.{piece_text, text_of};
 
 use crate::drawn_box::DrawnBox;
@@ -19,17 +18,6 @@ use std::alloc::AllocError;
 /// The number of levels of directories whose boxes are open when the page is loaded. The boxes of the next level are folded, but also seen.
 const OPEN_LEVELS: usize = 7;
 
-/// Returns `left` without the number of the box `next` if this box is directly in a box of depth `depth`, and `left` itself otherwise.
-fn left_after(by: Number, depth: usize, left: u128, next: &DrawnBox<'_>) -> u128
-    ensures { result ≡ (if next.now.depth == depth + 1 then left - number_in by next.now.sums else left) }
-{
-    if next.depth > depth && next.depth - depth == 1 {
-        left.saturating_sub(number_in(by, next.sums))
-    } else {
-        left
-    }
-}
-
 /// Returns `number` without the numbers `by` of the boxes directly in a box of depth `depth`. `after` has the boxes that follow that box,
 /// depth first.
 fn left_beside<'a>(by: Number, depth: usize, number: u128, after: &[DrawnBox<'a>]) -> u128
@@ -40,7 +28,9 @@ fn left_beside<'a>(by: Number, depth: usize, number: u128, after: &[DrawnBox<'a>
         if next.depth <= depth {
             return left;
         }
-        left = left_after(by, depth, left, next);
+        if next.depth - depth == 1 {
+            left = left.saturating_sub(number_in(by, next.sums));
+        }
     }
     left
 }
@@ -85,22 +75,6 @@ fn push_tag(
     Ok(())
 }
 
-/// Appends the title of a box, which the browser shows at the pointer: the path, the sums, and the share of the total.
-fn push_title(
-    text: &mut Vec<u8>,
-    scale: Scale,
-    path: &[u8],
-    sums: Sums,
-    made: &mut String,
-) -> Result<(), AllocError>
-    ensures { OnOk result (text.new.items ≡ text.old.items ++ text_of (title_of scale path.now sums)) }
-{
-    push_path(text, path, made)?;
-    text.extend_from_slice(b": ")?;
-    push_sums(text, sums, made)?;
-    push_share(text, scale, number_in(scale.by, sums))
-}
-
 fn push_label(
     text: &mut Vec<u8>,
     scale: Scale,
@@ -129,7 +103,10 @@ fn push_opening(
     ensures { OnOk result (text.new.items ≡ text.old.items ++ text_of (opening scale drawn.now rest)) }
 {
     push_tag(text, scale.by, drawn.depth, drawn.colour, drawn.sums)?;
-    push_title(text, scale, drawn.path, drawn.sums, made)?;
+    push_path(text, drawn.path, made)?;
+    text.extend_from_slice(b": ")?;
+    push_sums(text, drawn.sums, made)?;
+    push_share(text, scale, number_in(scale.by, drawn.sums))?;
     push_label(
         text,
         scale,

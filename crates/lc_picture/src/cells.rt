@@ -3,16 +3,13 @@
 ghost use Rattle.std.specs.Prelude.{◌≡◌, ◌++◌, OnOk};
 ghost use Rattle.lc_sheet.specs.Sheets.{line_of};
 ghost use Rattle.lc_sheet.specs.Values.{value_model};
-ghost use Rattle.lc_text.specs.Names.{name_model, named};
-ghost use Rattle.lc_text.specs.Visible.{visible_bytes, visible_path};
-ghost use Rattle.lc_picture.specs.Chart.{bar_cell, cell, cells, cells_in, empty_cell, name_cell, number_cell, share_cell};
+ghost use Rattle.lc_picture.specs.Chart.{bar_cell, cell, cells, name_cell};
 ghost use Rattle.lc_picture.specs.Pieces.{text_of};
 
 use crate::escaping::{push_html, push_name, push_path};
 use crate::percents::push_percent;
 use crate::sums::{push_count, push_number};
 use lc_sheet::{Column, Form, Lines, Value, flag_word};
-use lc_text::Name;
 use std::alloc::AllocError;
 
 /// Appends a text as the first cell of a line of the chart.
@@ -23,48 +20,6 @@ fn push_word_cell(text: &mut Vec<u8>, word: &[u8]) -> Result<(), AllocError>
     push_html(text, word)?;
     text.extend_from_slice(b"</th>")?;
     Ok(())
-}
-
-fn push_name_cell(text: &mut Vec<u8>, name: Name<'_>, made: &mut String) -> Result<(), AllocError>
-    ensures { OnOk result (text.new.items ≡ text.old.items ++ text_of (name_cell (named visible_bytes (name_model name.entry)))) }
-{
-    text.extend_from_slice(b"<th>")?;
-    push_name(text, name, made)?;
-    text.extend_from_slice(b"</th>")?;
-    Ok(())
-}
-
-fn push_path_cell(text: &mut Vec<u8>, path: &[u8], made: &mut String) -> Result<(), AllocError>
-    ensures { OnOk result (text.new.items ≡ text.old.items ++ text_of (name_cell (visible_path path.now))) }
-{
-    text.extend_from_slice(b"<th>")?;
-    push_path(text, path, made)?;
-    text.extend_from_slice(b"</th>")?;
-    Ok(())
-}
-
-fn push_number_cell(text: &mut Vec<u8>, n: u128, made: &mut String) -> Result<(), AllocError>
-    ensures { OnOk result (text.new.items ≡ text.old.items ++ text_of (number_cell n)) }
-{
-    text.extend_from_slice(b"<td>")?;
-    push_count(text, n, made)?;
-    text.extend_from_slice(b"</td>")?;
-    Ok(())
-}
-
-fn push_share_cell(text: &mut Vec<u8>, part: u128, whole: u128) -> Result<(), AllocError>
-    ensures { OnOk result (text.new.items ≡ text.old.items ++ text_of (share_cell part whole)) }
-{
-    text.extend_from_slice(b"<td>")?;
-    push_percent(text, part, whole)?;
-    text.extend_from_slice(b"</td>")?;
-    Ok(())
-}
-
-fn push_empty_cell(text: &mut Vec<u8>) -> Result<(), AllocError>
-    ensures { OnOk result (text.new.items ≡ text.old.items ++ text_of empty_cell) }
-{
-    text.extend_from_slice(b"<td></td>")
 }
 
 /// Appends a cell with a bar and the space next to the bar. The browser divides the width of the cell between the two by their numbers.
@@ -86,45 +41,31 @@ fn push_value(text: &mut Vec<u8>, value: Value<'_>, made: &mut String) -> Result
         Value::Missing => push_word_cell(text, b"-"),
         Value::Word(word) => push_word_cell(text, word.as_bytes()),
         Value::Flag(is_set) => push_word_cell(text, flag_word(is_set).as_bytes()),
-        Value::Name(name) => push_name_cell(text, name, made),
-        Value::Path(path) => push_path_cell(text, path, made),
-        Value::Number(n) => push_number_cell(text, n, made),
-        Value::Share { part, whole } => push_share_cell(text, part, whole),
+        Value::Name(name) => {
+            text.extend_from_slice(b"<th>")?;
+            push_name(text, name, made)?;
+            text.extend_from_slice(b"</th>")
+        }
+        Value::Path(path) => {
+            text.extend_from_slice(b"<th>")?;
+            push_path(text, path, made)?;
+            text.extend_from_slice(b"</th>")
+        }
+        Value::Number(n) => {
+            text.extend_from_slice(b"<td>")?;
+            push_count(text, n, made)?;
+            text.extend_from_slice(b"</td>")
+        }
+        Value::Share { part, whole } => {
+            text.extend_from_slice(b"<td>")?;
+            push_percent(text, part, whole)?;
+            text.extend_from_slice(b"</td>")
+        }
         Value::Bar { part, whole } => push_bar_cell(text, part, whole),
         Value::Summed | Value::Blank | Value::Difference { .. } | Value::Growth { .. } => {
-            push_empty_cell(text)
+            text.extend_from_slice(b"<td></td>")
         }
     }
-}
-
-/// Appends the cell that a line of the chart has in a column.
-fn push_cell<L: Lines>(
-    text: &mut Vec<u8>,
-    line: &L::Line,
-    form: Form,
-    column: Column,
-    made: &mut String,
-) -> Result<(), AllocError>
-    ensures { OnOk result (text.new.items ≡ text.old.items ++ text_of (cell (L.value_in form line.now column))) }
-{
-    push_value(text, L::value(line, form, column), made)
-}
-
-fn push_cells_in<L: Lines>(
-    text: &mut Vec<u8>,
-    line: &L::Line,
-    form: Form,
-    columns: &[Column],
-    made: &mut String,
-) -> Result<(), AllocError>
-    ensures { OnOk result (text.new.items ≡ text.old.items ++ text_of (cells_in (line_of (L.value_in form) columns.now line.now))) }
-{
-    let mut rest = columns;
-    'columns: while let Some((column, others)) = rest.split_first() {
-        push_cell::<L>(text, line, form, *column, made)?;
-        rest = others;
-    }
-    Ok(())
 }
 
 /// Appends the cells that a line of the chart has in these columns, and ends the line.
@@ -137,7 +78,10 @@ pub(crate) fn push_cells<L: Lines>(
 ) -> Result<(), AllocError>
     ensures { OnOk result (text.new.items ≡ text.old.items ++ text_of (cells (line_of (L.value_in form) columns.now line.now))) }
 {
-    push_cells_in::<L>(text, line, form, columns, made)?;
-    text.extend_from_slice(b"</tr>\n")?;
-    Ok(())
+    let mut rest = columns;
+    'columns: while let Some((column, others)) = rest.split_first() {
+        push_value(text, L::value(line, form, *column), made)?;
+        rest = others;
+    }
+    text.extend_from_slice(b"</tr>\n")
 }

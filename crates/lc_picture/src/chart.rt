@@ -1,8 +1,7 @@
 //! The bar chart of the rows of a sheet.
 
 ghost use Rattle.std.specs.Prelude.{◌≡◌, ◌++◌, OnOk};
-ghost use Rattle.lc_sheet.specs.Sheets.{line_of};
-ghost use Rattle.lc_picture.specs.Chart.{chart, coloured, coloured_line, coloured_lines, plain_line, plain_lines};
+ghost use Rattle.lc_picture.specs.Chart.{chart, coloured, coloured_lines, plain_lines};
 ghost use Rattle.lc_picture.specs.Pieces.{text_of};
 
 use crate::cells::push_cells;
@@ -21,21 +20,6 @@ fn push_coloured(text: &mut Vec<u8>, place: usize) -> Result<(), AllocError>
     Ok(())
 }
 
-fn push_coloured_line<L: Lines>(
-    text: &mut Vec<u8>,
-    place: usize,
-    line: &L::Line,
-    form: Form,
-    columns: &[Column],
-    made: &mut String,
-) -> Result<(), AllocError>
-    ensures { OnOk result (text.new.items
-        ≡ text.old.items ++ text_of (coloured_line place (line_of (L.value_in form) columns.now line.now))) }
-{
-    push_coloured(text, place)?;
-    push_cells::<L>(text, line, form, columns, made)
-}
-
 /// Appends the lines of a section of a sheet, each in the colour for its place.
 fn push_coloured_lines<L: Lines>(
     text: &mut Vec<u8>,
@@ -46,22 +30,10 @@ fn push_coloured_lines<L: Lines>(
 {
     let (form, columns, lines) = section.parts();
     for place in 0..lines.len() {
-        push_coloured_line::<L>(text, place, &lines[place], form, columns, made)?;
+        push_coloured(text, place)?;
+        push_cells::<L>(text, &lines[place], form, columns, made)?;
     }
     Ok(())
-}
-
-fn push_plain_line<L: Lines>(
-    text: &mut Vec<u8>,
-    line: &L::Line,
-    form: Form,
-    columns: &[Column],
-    made: &mut String,
-) -> Result<(), AllocError>
-    ensures { OnOk result (text.new.items ≡ text.old.items ++ text_of (plain_line (line_of (L.value_in form) columns.now line.now))) }
-{
-    text.extend_from_slice(b"<tr>")?;
-    push_cells::<L>(text, line, form, columns, made)
 }
 
 /// Appends the lines of a section of a sheet, without colours.
@@ -75,7 +47,8 @@ fn push_plain_lines<L: Lines>(
     let (form, columns, lines) = section.parts();
     let mut rest = lines;
     'lines: while let Some((line, others)) = rest.split_first() {
-        push_plain_line::<L>(text, line, form, columns, made)?;
+        text.extend_from_slice(b"<tr>")?;
+        push_cells::<L>(text, line, form, columns, made)?;
         rest = others;
     }
     Ok(())

@@ -42,13 +42,6 @@ fn box_of<'a>(
     }
 }
 
-/// Returns `kinds` from the index `place` on.
-fn rest_from<'a>(kinds: &'a [ShownRow<'a>], place: usize) -> &'a [ShownRow<'a>]
-    ensures { result.now ≡ drop place kinds.entry.now }
-{
-    &kinds[place.min(kinds.len())..]
-}
-
 /// Appends the box of a directory, whose rows are the next ones in `kinds` with its path. Returns the index of the first of them.
 fn push_drawn<'a>(
     boxes: &mut Vec<DrawnBox<'a>>,
@@ -63,7 +56,7 @@ fn push_drawn<'a>(
 {
     let directory = path_of(row);
     let place = next_place(directory, kinds, start);
-    let own = first_rows_of(directory, rest_from(kinds, place));
+    let own = first_rows_of(directory, &kinds[place.min(kinds.len())..]);
     boxes.push(box_of(row, own, small))?;
     Ok(place)
 }

@@ -17,31 +17,18 @@ fn is_markup(b: u8) -> bool
     MARKUP.contains(&b)
 }
 
-fn push_html_byte(text: &mut Vec<u8>, b: u8) -> Result<(), AllocError>
-    ensures { OnOk result (text.new.items ≡ text.old.items ++ escaped_byte b) }
-{
-    if is_markup(b) {
-        text.extend_from_slice(&[b'&', b'#', b'0' + b / 10, b'0' + b % 10, b';'])
-    } else {
-        text.extend_from_slice(&[b])
-    }
-}
-
 /// Appends a text. Each byte that could be markup becomes a character reference.
 pub(crate) fn push_html(text: &mut Vec<u8>, shown: &[u8]) -> Result<(), AllocError>
     ensures { OnOk result (text.new.items ≡ text.old.items ++ html shown.now) }
 {
     for b in shown {
-        push_html_byte(text, *b)?;
+        if is_markup(*b) {
+            text.extend_from_slice(&[b'&', b'#', b'0' + *b / 10, b'0' + *b % 10, b';'])?;
+        } else {
+            text.push(*b)?;
+        }
     }
     Ok(())
-}
-
-fn make_name(made: &mut String, name: Name<'_>) -> Result<(), AllocError>
-    ensures { OnOk result (string_bytes made.new ≡ named visible_bytes (name_model name.entry)) }
-{
-    made.clear();
-    push_visible_name(made, name)
 }
 
 /// Appends a name as a terminal shows it, escaped for HTML.
@@ -52,15 +39,9 @@ pub(crate) fn push_name(
 ) -> Result<(), AllocError>
     ensures { OnOk result (text.new.items ≡ text.old.items ++ html (named visible_bytes (name_model name.entry))) }
 {
-    make_name(made, name)?;
-    push_html(text, made.as_bytes())
-}
-
-fn make_path(made: &mut String, path: &[u8]) -> Result<(), AllocError>
-    ensures { OnOk result (string_bytes made.new ≡ visible_path path.now) }
-{
     made.clear();
-    push_visible_path(made, path)
+    push_visible_name(made, name)?;
+    push_html(text, made.as_bytes())
 }
 
 /// Appends a path, or the last name of a path, as a terminal shows it, escaped for HTML. The empty path of the top becomes a dot.
@@ -71,6 +52,7 @@ pub(crate) fn push_path(
 ) -> Result<(), AllocError>
     ensures { OnOk result (text.new.items ≡ text.old.items ++ html (visible_path path.now)) }
 {
-    make_path(made, path)?;
+    made.clear();
+    push_visible_path(made, path)?;
     push_html(text, made.as_bytes())
 }

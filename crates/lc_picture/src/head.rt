@@ -149,23 +149,6 @@ fn push_figure(
     text.extend_from_slice(b"</dd></div>\n")
 }
 
-fn push_figures(
-    text: &mut Vec<u8>,
-    files: u128,
-    lines: u128,
-    blank: u128,
-    bytes: u128,
-    made: &mut String,
-) -> Result<(), AllocError>
-    ensures { OnOk result (text.new.items ≡ text.old.items ++ text_of (figures files lines blank bytes)) }
-{
-    push_figure(text, Number::Files, files, made)?;
-    push_figure(text, Number::Lines, lines, made)?;
-    push_figure(text, Number::Blank, blank, made)?;
-    push_figure(text, Number::Bytes, bytes, made)?;
-    Ok(())
-}
-
 /// Appends the four numbers in the first line of a sheet's totals, each with the words that name it.
 fn push_figures_of<L: Lines>(
     text: &mut Vec<u8>,
@@ -174,11 +157,27 @@ fn push_figures_of<L: Lines>(
 ) -> Result<(), AllocError>
     ensures { OnOk result (text.new.items ≡ text.old.items ++ text_of (figures_of totals.now)) }
 {
-    push_figures(
+    push_figure(
         text,
+        Number::Files,
         first_number(Number::Files, totals),
+        made,
+    )?;
+    push_figure(
+        text,
+        Number::Lines,
         first_number(Number::Lines, totals),
+        made,
+    )?;
+    push_figure(
+        text,
+        Number::Blank,
         first_number(Number::Blank, totals),
+        made,
+    )?;
+    push_figure(
+        text,
+        Number::Bytes,
         first_number(Number::Bytes, totals),
         made,
     )?;

@@ -58,20 +58,6 @@ impl<'a> Kind<'a> {
     }
 }
 
-fn kinds_of_rows<'a>(
-    alloc: Global,
-    by: Number,
-    rows: &[ShownRow<'a>],
-) -> Result<Vec<Kind<'a>>, AllocError>
-    ensures { IfOk result (λ kinds. kinds.items ≡ map (kind_of by) rows.now) }
-{
-    let mut kinds = Vec::with_capacity(alloc, rows.len())?;
-    for row in rows {
-        kinds.push(Kind::of(by, row))?;
-    }
-    Ok(kinds)
-}
-
 /// Returns the numbers of a box: those of the rows of its directory, or that of its file.
 fn kinds_in<'a>(
     alloc: Global,
@@ -80,15 +66,18 @@ fn kinds_in<'a>(
 ) -> Result<Vec<Kind<'a>>, AllocError>
     ensures { IfOk result (λ kinds. kinds.items ≡ kinds_in by drawn.now) }
 {
-    if !drawn.is_file {
-        let kinds = kinds_of_rows(alloc, by, drawn.kinds)?;
+    if drawn.is_file {
+        let mut kinds = Vec::with_capacity(alloc, 1)?;
+        kinds.push(Kind {
+            extension: extension(drawn.own_name),
+            number: number_in(by, drawn.sums),
+        })?;
         return Ok(kinds);
     }
-    let mut kinds = Vec::with_capacity(alloc, 1)?;
-    kinds.push(Kind {
-        extension: extension(drawn.own_name),
-        number: number_in(by, drawn.sums),
-    })?;
+    let mut kinds = Vec::with_capacity(alloc, drawn.kinds.len())?;
+    for row in drawn.kinds {
+        kinds.push(Kind::of(by, row))?;
+    }
     Ok(kinds)
 }
 

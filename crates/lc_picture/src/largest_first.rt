@@ -26,29 +26,6 @@ impl<'a> Model for PlacedBox<'a> {
     ghost view = { λ p. record { branch = p.branch.items; drawn = p.drawn } };
 }
 
-fn copies<'a>(alloc: Global, places: &[Place<'a>]) -> Result<Vec<Place<'a>>, AllocError>
-    ensures { IfOk result (λ made. made.items ≡ places.now) }
-{
-    let mut made = Vec::with_capacity(alloc, places.len())?;
-    for place in places {
-        made.push(place.copy())?;
-    }
-    Ok(made)
-}
-
-/// Turns the places of the previous box, and of the directories above it, into the places of this box and of the directories above it.
-fn next_branch<'a>(
-    branch: &mut Vec<Place<'a>>,
-    by: Number,
-    drawn: &DrawnBox<'a>,
-) -> Result<(), AllocError>
-    ensures { OnOk result (branch.new.items ≡ branch_of by branch.old.items drawn.now) }
-{
-    branch.truncate(drawn.depth);
-    branch.push(Place::of(by, drawn))?;
-    Ok(())
-}
-
 fn push_placed<'a>(
     alloc: Global,
     placed: &mut Vec<PlacedBox<'a>>,
@@ -57,9 +34,12 @@ fn push_placed<'a>(
 ) -> Result<(), AllocError>
     ensures { OnOk result (placed.new.items ≡ placed.old.items ++ record { branch = branch.now; drawn = drawn.now } ∷ []) }
 {
-    let branch = copies(alloc, branch)?;
+    let mut places = Vec::with_capacity(alloc, branch.len())?;
+    for place in branch {
+        places.push(place.copy())?;
+    }
     placed.push(PlacedBox {
-        branch,
+        branch: places,
         drawn: drawn.copy(),
     })?;
     Ok(())
@@ -75,7 +55,8 @@ fn placed_boxes<'a>(
     let mut placed = Vec::new(alloc);
     let mut branch = Vec::new(alloc);
     for drawn in boxes {
-        next_branch(&mut branch, by, drawn)?;
+        branch.truncate(drawn.depth);
+        branch.push(Place::of(by, drawn))?;
         push_placed(alloc, &mut placed, &branch, drawn)?;
     }
     Ok(placed)

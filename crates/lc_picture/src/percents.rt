@@ -21,19 +21,13 @@ fn tenths_of(part: u128, whole: u128) -> Result<u128, AllocError>
     Ok(dividend / divisor)
 }
 
-fn push_tenths(text: &mut Vec<u8>, tenths: u128) -> Result<(), AllocError>
-    ensures { OnOk result (text.new.items ≡ text.old.items ++ share_word tenths) }
-{
-    push_number(text, tenths / 10)?;
-    text.extend_from_slice(b".")?;
-    push_number(text, tenths % 10)?;
-    text.extend_from_slice(b"%")
-}
-
 /// Appends the share of a part in a whole, in per cent with one decimal.
 pub(crate) fn push_percent(text: &mut Vec<u8>, part: u128, whole: u128) -> Result<(), AllocError>
     ensures { OnOk result (text.new.items ≡ text.old.items ++ share_word (rounded_parts 1000 part whole)) }
 {
     let tenths = tenths_of(part, whole)?;
-    push_tenths(text, tenths)
+    push_number(text, tenths / 10)?;
+    text.extend_from_slice(b".")?;
+    push_number(text, tenths % 10)?;
+    text.extend_from_slice(b"%")
 }

@@ -70,19 +70,6 @@ fn push_tree_part(
     Ok(())
 }
 
-fn push_chart_part<R: Lines, T: Lines, F: Lines, S: Lines, E: Lines>(
-    text: &mut Vec<u8>,
-    sheet: &Sheet<'_, R, T, F, S, E>,
-    made: &mut String,
-) -> Result<(), AllocError>
-    ensures { OnOk result (text.new.items ≡ text.old.items ++ text_of (chart_part sheet.now)) }
-{
-    text.extend_from_slice(chart_begin())?;
-    push_chart(text, sheet, made)?;
-    text.extend_from_slice(page_end())?;
-    Ok(())
-}
-
 /// Appends what follows the head of a page: the errors, the boxes and the chart.
 fn push_body<R: Lines, T: Lines, F: Lines, S: Lines, E: Lines>(
     text: &mut Vec<u8>,
@@ -96,7 +83,9 @@ fn push_body<R: Lines, T: Lines, F: Lines, S: Lines, E: Lines>(
 {
     push_faults(text, faults, made)?;
     push_tree_part(text, scale, boxes, made)?;
-    push_chart_part(text, sheet, made)?;
+    text.extend_from_slice(chart_begin())?;
+    push_chart(text, sheet, made)?;
+    text.extend_from_slice(page_end())?;
     Ok(())
 }
 
@@ -131,8 +120,9 @@ fn first_rows<'a, 'b>(rows: &'b [ShownRow<'a>]) -> &'b [ShownRow<'a>]
     &rows[..rows.len().min(CHART_ROWS as usize)]
 }
 
-/// Returns the boxes of the directories and files whose number `by`, such as lines, is at least `least`, the largest first, from the list of
-/// all files. Each chain of directories is one box. `kinds` are the rows by directory and extension, or none if the boxes get no colours.
+/// Returns the boxes of the directories and files whose number `by`, such as lines, is at least `least`, the largest first, from the list
+/// of all files. Each chain of directories is one box. `kinds` are the rows by directory and extension, or none if the boxes get no
+/// colours.
 pub(crate) fn boxes_of<'a>(
     alloc: Global,
     by: Number,
@@ -197,13 +187,13 @@ fn page_by(
 /// Makes the page of a report: one file of HTML with no script, no font and no URL.
 ///
 /// The page has its title, the chosen files, the sums over all files, boxes for directories and files, and a bar for each of the largest
-/// extensions. `chosen` is empty, or says which files were counted, such as `where ext=.c`. Both are shown as terminals show them. Boxes and
-/// bars show the number that `sort` names, or lines if `sort` is `None`. The browser divides the space in proportion to these numbers. If
-/// the report has errors, the page says how many, and lists the first hundred.
+/// extensions. `chosen` is empty, or says which files were counted, such as `where ext=.c`. Both are shown as terminals show them. Boxes
+/// and bars show the number that `sort` names, or lines if `sort` is `None`. The browser divides the space in proportion to these numbers.
+/// If the report has errors, the page says how many, and lists the first hundred.
 ///
 /// A directory whose path has at most 250 names has a box of its own if its number, such as lines, is at least 1 and at least a thousandth
-/// of the total. So has a file, if its directory has a box. A directory in which all but less than that is in one child directory shares the
-/// box of this child, which then has both names, such as `gpu/drm`. Each box is inside the box of the directory above it. Of the boxes
+/// of the total. So has a file, if its directory has a box. A directory in which all but less than that is in one child directory shares
+/// the box of this child, which then has both names, such as `gpu/drm`. Each box is inside the box of the directory above it. Of the boxes
 /// directly inside one box, the largest comes first. In each directory, one hatched box shows what has no box of its own. A reader can fold
 /// a box to leave its space to other boxes.
 ///

@@ -13,7 +13,8 @@ pub(crate) fn page_begin() -> &'static [u8]
 }
 
 /// Returns the style of a page's parts. A box is next to its parent, and space is divided by shares. The columns of boxes share the width:
-/// `--k` is how many there are. Text flows in columns as high as its box, so a text that does not fit goes to a second column, out of sight.
+/// `--k` is how many there are. Text flows in columns as high as its box, so a text that does not fit goes to a second column, out of
+/// sight.
 #[tactic(auto, unfolding(crate::specs::Style::style))]
 pub(crate) fn style() -> &'static [u8]
     ensures { result.now ≡ style }

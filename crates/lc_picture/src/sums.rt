@@ -30,18 +30,12 @@ pub(crate) fn push_number(text: &mut Vec<u8>, n: u128) -> Result<(), AllocError>
     text.extend_from_slice(buffer.format(n).as_bytes())
 }
 
-fn make_count(made: &mut String, n: u128) -> Result<(), AllocError>
-    ensures { OnOk result (string_bytes made.new ≡ with_commas (decimal n)) }
-{
-    made.clear();
-    lc_formats::push_number(made, n)
-}
-
 /// Appends a number with commas between groups of three digits.
 pub(crate) fn push_count(text: &mut Vec<u8>, n: u128, made: &mut String) -> Result<(), AllocError>
     ensures { OnOk result (text.new.items ≡ text.old.items ++ with_commas (decimal n)) }
 {
-    make_count(made, n)?;
+    made.clear();
+    lc_formats::push_number(made, n)?;
     text.extend_from_slice(made.as_bytes())
 }
 

@@ -1,7 +1,7 @@
 use Rattle.std.proofs.Common.{◌≡◌, ◌++◌, length}
 use Rattle.lc_sheet.specs.Sheets.{line_of}
 use Rattle.lc_picture.specs.{Chart.cells_in, Pieces.text_of}
-use Rattle.lc_picture.proofs.cells.push_cells_in.Given as goal
+use Rattle.lc_picture.proofs.cells.push_cells.Given as goal
 
 abbrev pub invariant-columns : goal.invariant-columns
 invariant-columns g l =
