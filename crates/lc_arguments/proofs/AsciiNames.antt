@@ -1,24 +1,20 @@
 -- Names of attributes, and of their columns, are texts.
-use Rattle.std.proofs.Common.{◌≡◌, ℕ, nat_lt, ◌<◌, ◌&&◌, Bool, true, false, cond, List, [], ◌∷◌, drop, take, Some, None, refl, subst, sym}
-use Rattle.std.proofs.{Common.arith, lemmas.{Bool.Decides.nat_tests, List.take-append-drop, Slice.Eq.bytes_eq-Decides}}
-use Rattle.std.proofs.lemmas.{List.Elements.{All-cons, All-nil}, Str.{IsUtf8-append, IsUtf8-from_ascii}}
-use Rattle.std.proofs.lemmas.Str.Ascii.{IsAscii-from_all}
+use Rattle.std.proofs.{lemmas.{Grind.common_steps, Bool.Decides.nat_tests, List.{take-append-drop}}}
+use Rattle.std.proofs.{lemmas.{Slice.Eq.bytes_eq-Decides, Str.{IsUtf8-append, IsUtf8-from_ascii, Ascii.IsAscii-from_all}}, Common.{◌≡◌, ℕ}}
+use Rattle.std.proofs.{Common.{nat_lt, ◌<◌, ◌&&◌, Bool, true, false, cond, List, [], ◌∷◌, drop, take, Some, None, refl, subst, sym, arith}}
 use Rattle.std.specs.{List.{All, list_all}, Str.{IsUtf8, bytes_eq}}
 use Rattle.lc_sheet.specs.AttributeColumns.{attribute_front}
 use Rattle.lc_arguments.specs.Texts.{after_front}
-use Rattle.lc_rules.specs.AttrWords.{is_name, is_name_byte}
+use Rattle.lc_rules.specs.{AttrWords.{is_name, is_name_byte}}
 
 small : (b : ℕ) → is_name_byte b ≡ true → b < 128
 small b is = grind (arith, nat_tests)
 
 both : (x y : Bool) → (x && y) ≡ true → (x ≡ true) × (y ≡ true)
-both true y is = (refl, is)
-both false y is = absurd (cc)
+both x y is = grind (arith, common_steps)
 
 all_small : (p : ℕ → Bool) → ((b : ℕ) → p b ≡ true → b < 128) → (bs : List ℕ) → list_all p bs ≡ true → All (λ b. b < 128) bs
-all_small p low [] are = All-nil (λ b. b < 128)
-all_small p low (b ∷ bs) are =
-    let parts = both (p b) (list_all p bs) are in All-cons (λ c. c < 128) b bs (low b parts.0) (all_small p low bs parts.1)
+all_small p low bs are = grind (arith, common_steps, both)
 
 front_small : (b : ℕ) → nat_lt b 128 ≡ true → b < 128
 front_small b is = grind (arith, nat_tests)

@@ -1,12 +1,13 @@
 -- Names of columns among the words.
-use Rattle.std.proofs.Common.{◌≡◌, ◌∙◌, ◌+◌, ◌≤◌, ◌<◌, ◌⊎◌, inl, inr, ℕ, suc, nat_lt, max, min, Bool, true, false, cond, ◌&&◌, ◌||◌}
+use Rattle.std.proofs.lemmas.Grind.{common_steps}
+use Rattle.std.proofs.Common.{◌≡◌, ◌∙◌, ◌+◌, ◌≤◌, ◌<◌, ◌⊎◌, inl, inr, ℕ, suc, max, min, Bool, true, false, ◌&&◌, ◌||◌}
 use Rattle.std.proofs.Common.{List, [], ◌∷◌, length, filter, Option, Some, None, is_some, unwrap_or, IfSome, refl, ap, sym, subst, arith}
 use Rattle.std.proofs.lemmas.{Bool.Decides.nat_tests, Slice.Eq.bytes_eq-Decides}
 use Rattle.std.specs.{Bool.MatchBool, Borrow.Bor, List.list_all, Str.bytes_eq}
 use Rattle.lc_sheet.specs.declared.table_options.Columns.{Columns}
-use Rattle.lc_sheet.specs.{Keys.{has_key, key_name, with_key}, declared.key.Key.{Key, TheVariants.{Dir, Attribute, Ext, Text, Eol}}}
+use Rattle.lc_sheet.specs.{Keys.{has_key, key_name, with_key}, declared.key.Key.{Key, TheVariants.{Dir, Attribute}}}
 use Rattle.lc_sheet.specs.AttributeColumns.{language_name}
-use Rattle.lc_arguments.specs.{AttributeWords.{attribute_named, how_often, names_attribute, names_column}, Options.max_depth}
+use Rattle.lc_arguments.specs.{AttributeWords.{how_often, names_attribute, names_column}, Options.max_depth}
 use Rattle.lc_arguments.specs.TableWords.{AreColumnsBy, AreNamesOf, IsColumnsText}
 use Rattle.lc_arguments.specs.TableWords.{IsKeyAfter, IsNoKeyAfter, is_fixed, is_key_name, max_attributes, max_columns, once_if}
 
@@ -28,34 +29,16 @@ pub record StillNames (depth : ℕ) (c : Columns) (left all : List (List ℕ)) :
       → (how_often name all ≡ how_often name left) ⊎ ((how_often name all ≡ 1) × (how_often name left ≡ 0))
   pub others : list_all is_column_name left ≡ list_all is_column_name all
 
-once_small : (b : Bool) → once_if b ≤ 1
-once_small true = omega arith
-once_small false = omega arith
-
 -- a name more, of which a test holds or not
 next : (p : List ℕ → Bool) (n : List ℕ) (ns : List (List ℕ)) → length (filter p (n ∷ ns)) ≡ once_if (p n) + length (filter p ns)
-next p n ns = go (p n)
-  where
-    go : (b : Bool) → length (cond b (n ∷ filter p ns) (filter p ns)) ≡ once_if b + length (filter p ns)
-    go true = omega arith
-    go false = omega arith
+next p n ns = grind (arith, common_steps)
 
 how_often_next : (name n : List ℕ) (ns : List (List ℕ)) → how_often name (n ∷ ns) ≡ once_if (bytes_eq name n) + how_often name ns
 how_often_next name = next (bytes_eq name)
 
 -- a column is that of languages or an attribute's
 one_kind : (n : List ℕ) → once_if (names_column n) ≡ once_if (names_attribute n) + once_if (bytes_eq language_name n)
-one_kind n = go (bytes_eq language_name n) refl (bytes_eq n language_name) refl
-  where
-    go : (b : Bool) → bytes_eq language_name n ≡ b → (c : Bool) → bytes_eq n language_name ≡ c
-        → once_if (names_column n) ≡ once_if (names_attribute n) + once_if (bytes_eq language_name n)
-    go true e c f =
-        subst (λ m. once_if (names_column m) ≡ once_if (names_attribute m) + once_if (bytes_eq language_name m))
-        ((bytes_eq-Decides language_name n).0 e) refl
-    go false e true f =
-        let same = (bytes_eq-Decides language_name n).1 (sym ((bytes_eq-Decides n language_name).0 f)) in absurd (cc)
-    go false e false f =
-        omega (arith, ap (λ b. once_if (is_some (cond b (Some language_name) (attribute_named n)))) f, ap once_if e)
+one_kind n = grind (arith, common_steps, bytes_eq-Decides)
 
 columns_in : (names : List (List ℕ))
     → length (filter names_column names) ≡ length (filter names_attribute names) + how_often language_name names
@@ -66,109 +49,21 @@ columns_in (n ∷ ns) =
 
 -- of which as many are allowed, and one more if that of languages is among them
 most_in : (names : List (List ℕ)) → max_columns names ≡ max_attributes + min 1 (how_often language_name names)
-most_in names = go (how_often language_name names) (nat_lt 0 (how_often language_name names)) refl
-  where
-    go : (m : ℕ) (b : Bool) → nat_lt 0 m ≡ b → max_attributes + length (cond b (language_name ∷ []) []) ≡ max_attributes + min 1 m
-    go m true e = grind (arith, nat_tests, e)
-    go m false e = grind (arith, nat_tests, e)
-
-here_once : (n : List ℕ) → once_if (bytes_eq n n) ≡ 1
-here_once n = ap once_if ((bytes_eq-Decides n n).1 refl)
-
--- a name that is an attribute's differs from one that is not
-apart : (name n : List ℕ) → names_column name ≡ true → names_column n ≡ false → once_if (bytes_eq name n) ≡ 0
-apart name n is other = go (bytes_eq name n) refl
-  where
-    go : (b : Bool) → bytes_eq name n ≡ b → once_if b ≡ 0
-    go true e = let same = ap names_column ((bytes_eq-Decides name n).0 e) in absurd (cc)
-    go false e = refl
+most_in names = grind (arith, common_steps, nat_tests)
 
 apart_too : (name n : List ℕ) → names_column name ≡ false → names_column n ≡ true → once_if (bytes_eq name n) ≡ 0
-apart_too name n other is = go (bytes_eq name n) refl
-  where
-    go : (b : Bool) → bytes_eq name n ≡ b → once_if b ≡ 0
-    go true e = let same = ap names_column ((bytes_eq-Decides name n).0 e) in absurd (cc)
-    go false e = refl
+apart_too name n h1 h2 = grind (arith, common_steps, bytes_eq-Decides)
 
 fixed_apart : (k : Key) → is_fixed k ≡ true → names_column (key_name [] k) ≡ false
-fixed_apart Dir fixed = refl
-fixed_apart (Attribute place) fixed = absurd (cc)
-fixed_apart Ext fixed = refl
-fixed_apart Text fixed = refl
-fixed_apart Eol fixed = refl
-
--- a key more
-none_more : (n : ℕ) → n ≡ 0 + n
-none_more n = omega arith
-
-one_for : (b : Bool) → b ≡ false → 1 ≡ 1 + once_if b
-one_for true unset = absurd (cc)
-one_for false unset = omega arith
-
-one_more : (k j : Key) (depth : ℕ) (c : Columns) → is_fixed k ≡ true → is_fixed j ≡ true → has_key c k ≡ false
-    → once_if (has_key (with_key k depth c) j) ≡ once_if (bytes_eq (key_name [] j) (key_name [] k)) + once_if (has_key c j)
-one_more (Attribute place) j depth c fixed own unset = absurd (cc)
-one_more k (Attribute place) depth c fixed own unset = absurd (cc)
-one_more Dir Dir depth c fixed own unset = one_for (is_some c.dir) unset
-one_more Dir j depth c fixed own unset = none_more _
-one_more Ext Ext depth c fixed own unset = one_for c.ext unset
-one_more Ext j depth c fixed own unset = none_more _
-one_more Text Text depth c fixed own unset = one_for c.text unset
-one_more Text j depth c fixed own unset = none_more _
-one_more Eol Eol depth c fixed own unset = one_for c.eol unset
-one_more Eol j depth c fixed own unset = none_more _
-
-cut_with : (k : Key) (depth : ℕ) (c : Columns) → IfSome c.dir (λ segments. segments ≡ depth)
-    → IfSome (with_key k depth c).dir (λ segments. segments ≡ depth)
-cut_with Dir depth c cut = refl
-cut_with k depth c cut = cut
-
-same_attributes : (k : Key) (depth : ℕ) (c : Columns) → is_fixed k ≡ true → (with_key k depth c).attributes ≡ c.attributes
-same_attributes Dir depth c fixed = refl
-same_attributes (Attribute place) depth c fixed = absurd (cc)
-same_attributes Ext depth c fixed = refl
-same_attributes Text depth c fixed = refl
-same_attributes Eol depth c fixed = refl
+fixed_apart k h1 = grind (arith, common_steps)
 
 same_fixed : (j : Key) (place depth : ℕ) (c : Columns) → is_fixed j ≡ true → has_key (with_key (Attribute place) depth c) j ≡ has_key c j
-same_fixed Dir place depth c fixed = refl
-same_fixed (Attribute p) place depth c fixed = absurd (cc)
-same_fixed Ext place depth c fixed = refl
-same_fixed Text place depth c fixed = refl
-same_fixed Eol place depth c fixed = refl
-
-names_itself : (k : Key) → is_fixed k ≡ true → is_key_name (key_name [] k) ≡ true
-names_itself Dir fixed = refl
-names_itself (Attribute place) fixed = absurd (cc)
-names_itself Ext fixed = refl
-names_itself Text fixed = refl
-names_itself Eol fixed = refl
+same_fixed j place depth c h1 = grind (arith, common_steps)
 
 -- with a key that they did not have
 fixed_joins : (depth : ℕ) (c : Columns) (k : Key) (left all : List (List ℕ)) → is_fixed k ≡ true → has_key c k ≡ false
     → StillNames depth c (key_name [] k ∷ left) all → StillNames depth (with_key k depth c) left all
-fixed_joins depth c k left all fixed unset g =
-    let other = fixed_apart k fixed in record {
-      each = λ j own. omega (
-        arith,
-        g.each j own,
-        how_often_next (key_name [] j) (key_name [] k) left,
-        one_more k j depth c fixed own unset,
-      );
-      cut = cut_with k depth c g.cut;
-      attributes = omega (arith, g.attributes, next names_column (key_name [] k) left, ap once_if other, same_attributes k depth c fixed);
-      few = omega (arith, g.few, same_attributes k depth c fixed);
-      once = λ name is. same_once name (apart name (key_name [] k) is other) (g.once name is);
-      others = sym (ap (λ b. (names_column (key_name [] k) || b) && list_all is_column_name left) (names_itself k fixed)
-          ∙ ap (λ b. (b || true) && list_all is_column_name left) other) ∙ g.others;
-    }
-  where
-    same_once : (name : List ℕ) → once_if (bytes_eq name (key_name [] k)) ≡ 0
-        → (how_often name all ≡ how_often name (key_name [] k ∷ left))
-        ⊎ ((how_often name all ≡ 1) × (how_often name (key_name [] k ∷ left) ≡ 0))
-        → (how_often name all ≡ how_often name left) ⊎ ((how_often name all ≡ 1) × (how_often name left ≡ 0))
-    same_once name none (inl same) = inl (omega (arith, same, none, how_often_next name (key_name [] k) left))
-    same_once name none (inr both) = inr (both.0, omega (arith, both.1, none, how_often_next name (key_name [] k) left))
+fixed_joins depth c k left all h1 h2 h3 = grind (arith, common_steps, fixed_apart, how_often_next, next, bytes_eq-Decides)
 
 grown : (a : ℕ) (names : List (List ℕ)) → a < max_columns names → max a (min 255 (a + 1)) ≡ a + 1
 grown a names few = omega (arith, few, most_in names)
@@ -216,24 +111,11 @@ joins depth c k n left all after g = go (names_column n) refl after
 
 refuses_twice : (depth : ℕ) (c d : Columns) (k : Key) (left all : List (List ℕ)) → is_fixed k ≡ true
     → StillNames depth c (key_name [] k ∷ left) all → has_key c k ≡ true → AreNamesOf all depth d → ⊥
-refuses_twice depth c d k left all fixed g set are =
-    absurd (omega (
-      arith,
-      ap once_if set,
-      here_once (key_name [] k),
-      g.each k fixed,
-      how_often_next (key_name [] k) (key_name [] k) left,
-      are.each k fixed,
-      once_small (has_key d k),
-    ))
+refuses_twice depth c d k left all h1 h2 h3 h4 = grind (arith, common_steps, bytes_eq-Decides, how_often_next)
 
 refuses_repeated : (depth : ℕ) (c d : Columns) (n : List ℕ) (left all : List (List ℕ)) → names_column n ≡ true → 1 ≤ how_often n left
     → StillNames depth c (n ∷ left) all → AreNamesOf all depth d → ⊥
-refuses_repeated depth c d n left all is more g are = go (g.once n is)
-  where
-    go : (how_often n all ≡ how_often n (n ∷ left)) ⊎ ((how_often n all ≡ 1) × (how_often n (n ∷ left) ≡ 0)) → ⊥
-    go (inl same) = absurd (omega (arith, same, more, here_once n, how_often_next n n left, are.once n is))
-    go (inr both) = absurd (omega (arith, both.1, here_once n, how_often_next n n left))
+refuses_repeated depth c d n left all h1 h2 h3 h4 = grind (arith, common_steps, bytes_eq-Decides, how_often_next)
 
 -- a name that is left and no key's, or that of a key which they have, ends it
 pub refuses : (depth : ℕ) (c d : Columns) (n : List ℕ) (left all : List (List ℕ)) → IsNoKeyAfter (max_columns all) c n left
@@ -256,19 +138,7 @@ refuses depth c d n left all none g are = go (names_column n) refl none
 
 -- where no name is left, they are named
 pub all_named : (depth : ℕ) (c : Columns) (all : List (List ℕ)) → StillNames depth c [] all → AreNamesOf all depth c
-all_named depth c all g = record {
-  each = λ k fixed. omega (arith, g.each k fixed);
-  cut = g.cut;
-  attributes = omega (arith, g.attributes);
-  few = omega (arith, g.attributes, g.few, columns_in all, most_in all);
-  once = λ name is. small name (g.once name is);
-  no_others = sym g.others;
-}
-  where
-    small : (name : List ℕ) → (how_often name all ≡ how_often name []) ⊎ ((how_often name all ≡ 1) × (how_often name [] ≡ 0))
-        → how_often name all ≤ 1
-    small name (inl none) = omega (arith, none)
-    small name (inr both) = omega (arith, both.0)
+all_named depth c all h1 = grind (arith, common_steps, columns_in, most_in)
 
 -- a depth asks for directories, which the names of columns without them do not name
 pub undirected : (text : List ℕ) (depth : Option ℕ) (c : Columns) → IsColumnsText text (unwrap_or depth 1) c → is_some depth ≡ true
@@ -284,11 +154,4 @@ undirected text (Some n) c are some none is_tree (Some d) by =
 pub depth_within : (is_tree : Bool) (depth : Option ℕ) (columns : Option Columns) (by : Option (List ℕ))
     → AreColumnsBy is_tree by depth columns → 1 ≤ unwrap_or depth 1 → unwrap_or depth 1 ≤ max_depth
     → IfSome columns (λ c. IfSome c.dir (λ segments. (1 ≤ segments) × (segments ≤ max_depth)))
-depth_within is_tree depth None by are some within = tt
-depth_within is_tree depth (Some c) None are some within = absurd are
-depth_within is_tree depth (Some c) (Some text) are some within = go c.dir are.named.cut
-  where
-    go : (dir : Option ℕ) → IfSome dir (λ segments. segments ≡ unwrap_or depth 1)
-        → IfSome dir (λ segments. (1 ≤ segments) × (segments ≤ max_depth))
-    go None cut = tt
-    go (Some segments) cut = (rw cut some, rw cut within)
+depth_within is_tree depth columns by h1 h2 h3 = grind (arith, common_steps)

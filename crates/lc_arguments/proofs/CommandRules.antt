@@ -1,38 +1,29 @@
 -- Arguments that are made of rows, commands that are given them in turn, and what is read of a number among these.
-use Rattle.std.proofs.Common.{◌≡◌, ◌∙◌, ◌+◌, ◌<◌, ℕ, zero, suc, Bool, true, false, not, ◌||◌, cond, List, [], ◌∷◌, ◌++◌, length, map}
-use Rattle.std.proofs.{Common.{take, get_or, refl, sym, ap, ap₂, subst, arith}, lemmas.Bool.and_parts}
+use Rattle.std.proofs.{Common.{rules, ◌≡◌, ◌∙◌, ◌+◌, ◌<◌, ℕ, zero, suc, Bool, true, false, not, ◌||◌, cond, List, [], ◌∷◌, ◌++◌, length}}
+use Rattle.std.proofs.{Common.{map, take, get_or, refl, sym, ap, ap₂, subst, arith}, lemmas.{Grind.common_steps, Bool.and_parts}}
 use Rattle.std.proofs.lemmas.List.{append-nil, get_or-map, length-map, map-append, take_more, Elements.{All-cons, All-nil, filter-append}}
 use Rattle.std.proofs.lemmas.List.Folds.{list_any_at}
 use Rattle.std.proofs.lemmas.Slice.Eq.{bytes_eq-Decides}
-use Rattle.std.specs.{Prelude.{codes, pos, Option, Some}, List.{All, filter, list_any, slice_index_or}, Str.bytes_eq}
+use Rattle.std.specs.{Prelude.{codes, pos, Option, Some}, List.{All, list_any, slice_index_or}, Str.bytes_eq}
 use Rattle.clap.specs.{Built.{AddsArg, AddsInTurn, AddsSubcommand, FitsChain, HasDistinctIds}, Lexer.without_minus, Matches.found_of}
-use Rattle.clap.specs.{Matches.one_text, Values.IsSignedIn, declared.builder.{arg.Arg.Arg, command.Command.{Command, TheViews.out-Command}}}
-use Rattle.clap.specs.{declared.builder.value_parser.ValueParser.{ValueParser, TheVariants.Signed}, Simple.{App, app_of, new_rule}}
-use Rattle.clap.specs.{Simple.{with_rule, with_subcommand}, Walk.{Rule, rule_of}, declared.parser.matches.Found.Found}
+use Rattle.clap.specs.{Matches.one_text, Values.IsSignedIn}
+use Rattle.clap.specs.declared.builder.{arg.Arg.Arg, command.Command.{Command, TheViews.out-Command}}
+use Rattle.clap.specs.declared.builder.{value_parser.ValueParser.{ValueParser, TheVariants.Signed}}
+use Rattle.clap.specs.{declared.parser.matches.Found.Found, Simple.{App, app_of, new_rule, with_rule, with_subcommand}, Walk.Rule}
+use Rattle.clap.specs.Walk.{rule_of}
 use Rattle.lc_arguments.specs.{CommandLine.{app_with, bare_app, option_rule, rules_in, with_rules, with_subcommands}, CountArgs.AreArgsOf}
-use Rattle.lc_arguments.specs.{CountArgs.{AreCommandsOf, IsArgOf, IsBare, IsCommandOf}, Directories.are_distinct, Options.OptionModel}
-use Rattle.lc_arguments.specs.Options.{is_of, max_depth, max_dirs, max_threads, max_top, option_model, options}
-use Rattle.lc_arguments.specs.ReadNumbers.{AreCutsReadWithin, AreReadBy, AreReadWithin, ReadsWithin, parser_named}
+use Rattle.lc_arguments.specs.{CountArgs.{AreCommandsOf, IsArgOf, IsBare, IsCommandOf}, Directories.are_distinct}
+use Rattle.lc_arguments.specs.{Options.{is_of, max_depth, max_dirs, max_threads, max_top, option_model, options}}
+use Rattle.lc_arguments.specs.{ReadNumbers.{AreCutsReadWithin, AreReadBy, AreReadWithin, ReadsWithin, parser_named}}
 use Rattle.lc_arguments.specs.declared.option_row.OptionRow.{OptionRow}
-use Rattle.lc_arguments.specs.declared.option_row.Subcommand.{Subcommand, TheVariants.{Count, Explain, Check, Sum, Diff, Languages}}
+use Rattle.lc_arguments.specs.{declared.option_row.Subcommand.{Subcommand, TheVariants.{Count, Explain, Check, Sum, Diff, Languages}}}
 use Rattle.lc_arguments.proofs.ReadValues.{read_in_chain}
 
 -- the rules of one more row
 rules_more : (command : Subcommand) (rows : List OptionRow) (row : OptionRow) (has : Bool) → is_of command row.of ≡ has
     → rules_in command (map option_model (rows ++ row ∷ []))
     ≡ rules_in command (map option_model rows) ++ cond has (option_rule (option_model row) ∷ []) []
-rules_more command rows row has is =
-    ap (rules_in command) (map-append option_model rows (row ∷ []))
-    ∙ (ap (map option_rule) (filter-append (λ (o : OptionModel). is_of command o.of) (map option_model rows) (option_model row ∷ []))
-    ∙ (map-append option_rule (filter (λ (o : OptionModel). is_of command o.of) (map option_model rows))
-    (filter (λ (o : OptionModel). is_of command o.of) (option_model row ∷ []))
-    ∙ ap (λ (rs : List Rule). rules_in command (map option_model rows) ++ rs) (last has is)))
-  where
-    last : (b : Bool) → is_of command row.of ≡ b
-        → map option_rule (filter (λ (o : OptionModel). is_of command o.of) (option_model row ∷ []))
-        ≡ cond b (option_rule (option_model row) ∷ []) []
-    last true there = ap (λ (b : Bool). map option_rule (cond b (option_model row ∷ []) [])) there
-    last false there = ap (λ (b : Bool). map option_rule (cond b (option_model row ∷ []) [])) there
+rules_more command rows row has is = grind (arith, common_steps, map-append, filter-append)
 
 -- one more argument
 args_more : (rules : List Rule) (args : List Arg) (rule : Rule) (a : Arg) → AreArgsOf rules args → IsArgOf rule a
@@ -47,51 +38,30 @@ pub one_more : (command : Subcommand) (rows : List OptionRow) (i : ℕ) (d : Opt
     → is_of command (get_or rows i d).of ≡ true → AreArgsOf (rules_in command (map option_model (take i rows))) args
     → IsArgOf (option_rule (option_model (get_or rows i d))) a → new ≡ args ++ a ∷ []
     → AreArgsOf (rules_in command (map option_model (take (i + 1) rows))) new
-one_more command rows i d args new a low has are is added =
-    let row = get_or rows i d in
-    let rules : rules_in command (map option_model (take (i + 1) rows))
-    ≡ rules_in command (map option_model (take i rows)) ++ option_rule (option_model row) ∷ [] =
-    ap (λ (rs : List OptionRow). rules_in command (map option_model rs)) (take_more rows i d low)
-    ∙ rules_more command (take i rows) row true has in
-    let all = args_more (rules_in command (map option_model (take i rows))) args (option_rule (option_model row)) a are is in
-    subst (λ (rs : List Rule). AreArgsOf rs new) (sym rules)
-    (subst (λ (xs : List Arg). AreArgsOf (rules_in command (map option_model (take i rows)) ++ option_rule (option_model row) ∷ []) xs)
-    (sym added) all)
+one_more command rows i d args new a low has are is added = grind (arith, common_steps, take_more, rules_more, args_more)
 
 -- and a row that it has not gives none
 pub none_more : (command : Subcommand) (rows : List OptionRow) (i : ℕ) (d : OptionRow) (args : List Arg) → i < length rows
     → is_of command (get_or rows i d).of ≡ false → AreArgsOf (rules_in command (map option_model (take i rows))) args
     → AreArgsOf (rules_in command (map option_model (take (i + 1) rows))) args
-none_more command rows i d args low not_its are =
-    let rules : rules_in command (map option_model (take (i + 1) rows)) ≡ rules_in command (map option_model (take i rows)) =
-    ap (λ (rs : List OptionRow). rules_in command (map option_model rs)) (take_more rows i d low)
-    ∙ (rules_more command (take i rows) (get_or rows i d) false not_its ∙ append-nil _) in
-    subst (λ (rs : List Rule). AreArgsOf rs args) (sym rules) are
+none_more command rows i d args low not_its are = grind (arith, common_steps, take_more, rules_more, append-nil)
 
 abbrev pub ids_of : List Arg → List (List ℕ)
 ids_of xs = map (λ (a : Arg). a.id.now) xs
 
 not_true : (a : Bool) → not a ≡ true → a ≡ true → ⊥
-not_true true e t = cc
-not_true false e t = cc
+not_true a e t = grind (arith, common_steps)
 
 id_at : (xs : List Arg) (k : ℕ) (d : Arg) → k < length xs → get_or (ids_of xs) k [] ≡ (slice_index_or xs k d).id.now
-id_at [] k d low = absurd (omega arith)
-id_at (x ∷ xs) zero d low = refl
-id_at (x ∷ xs) (suc k) d low = id_at xs k d (omega arith)
+id_at xs k d low = grind (arith, common_steps)
 
 length_ids : (xs : List Arg) → length (ids_of xs) ≡ length xs
-length_ids [] = refl
-length_ids (x ∷ xs) = ap suc (length_ids xs)
+length_ids xs = grind (arith, common_steps)
 
 -- the first name stands nowhere after it
 first_apart : (x : Arg) (xs : List Arg) → not (list_any (bytes_eq x.id.now) (ids_of xs)) ≡ true → (k : ℕ) (d : Arg) → k < length xs
     → x.id.now ≡ (slice_index_or xs k d).id.now → ⊥
-first_apart x xs none k d low same =
-    let there : bytes_eq x.id.now (get_or (ids_of xs) k []) ≡ true = (bytes_eq-Decides x.id.now (get_or (ids_of xs) k [])).1
-    (same ∙ sym (id_at xs k d low)) in
-    let within : k < length (ids_of xs) = rw (length_ids xs) low in
-    not_true _ none (list_any_at (bytes_eq x.id.now) (ids_of xs) k [] within there)
+first_apart x xs none k d low same = grind (arith, common_steps, bytes_eq-Decides, id_at, length_ids, not_true, list_any_at)
 
 -- arguments whose names pass the test have distinct names
 pub distinct_ids : (xs : List Arg) → are_distinct (ids_of xs) ≡ true → HasDistinctIds xs
@@ -148,14 +118,7 @@ pub record HasRules (name : List ℕ) (rules : List Rule) (c : Command) : Type 0
 -- a bare command that is given such arguments has their rules
 pub given : (name : List ℕ) (rules : List Rule) (bare : Command) (args : List Arg) (c : Command) → IsBare name bare → AreArgsOf rules args
     → AddsInTurn AddsArg bare args c → HasRules name rules c
-given name rules bare args c is are added = record {
-  bare = bare;
-  is_bare = is;
-  args = args;
-  added = added;
-  fits = fit_of rules args are;
-  are = rules_are rules args are;
-}
+given name rules bare args c is are added = grind (arith, common_steps, fit_of, rules_are)
 
 -- a command that is given subcommands in turn
 pub subcommands_in_turn : (apps : List App) (commands : List Command) → AreCommandsOf apps commands → (a : App) (old new : Command)
@@ -245,16 +208,9 @@ module _ (rules : List Rule) (found : Found) (read : AreReadBy rules found) wher
 
   -- the numbers of a table are within their limits
   pub cuts_within : IsLimit (codes "depth") max_depth → IsLimit (codes "top") max_top → AreCutsReadWithin found
-  cuts_within depth top = record {
-    depth = read (codes "depth") max_depth depth;
-    top = read (codes "top") max_top top;
-  }
+  cuts_within depth top = grind (arith, common_steps)
 
   -- and so are those of a walk
   pub numbers_within : IsLimit (codes "threads") max_threads → IsLimit (codes "max-dirs") max_dirs → IsLimit (codes "depth") max_depth
       → IsLimit (codes "top") max_top → AreReadWithin found
-  numbers_within threads dirs depth top = record {
-    threads = read (codes "threads") max_threads threads;
-    max_dirs = read (codes "max-dirs") max_dirs dirs;
-    cuts = cuts_within depth top;
-  }
+  numbers_within threads dirs depth top = grind (arith, common_steps, cuts_within)

@@ -1,8 +1,8 @@
 -- The name of a report among the bytes of a word.
-use Rattle.std.proofs.Common.{◌≡◌, ◌∙◌, ◌+◌, ◌||◌, ◌&&◌, ℕ, Bool, true, false, not, List, [], ◌∷◌, length, refl, ap, cond, Some, None}
-use Rattle.std.proofs.Common.{arith}
-use Rattle.std.specs.List.{after_first, before_first, list_any, position_or_len}
-use Rattle.lc_glob.specs.{Bytes.slash, Pieces.is_byte}
+use Rattle.std.proofs.{lemmas.Grind.common_steps, Common.{◌≡◌, ◌∙◌, ◌+◌, ◌||◌, ℕ, Bool, true, false, not, List, [], ◌∷◌, length}}
+use Rattle.std.proofs.{Common.{refl, ap, cond, None, arith}}
+use Rattle.std.specs.{List.{list_any, position_or_len}}
+use Rattle.lc_glob.specs.{Pieces.is_byte}
 use Rattle.lc_rules.specs.Bytes.{equals_sign}
 use Rattle.lc_arguments.specs.Reports.{named_of}
 
@@ -23,7 +23,4 @@ none_there byte (x ∷ xs) none = go (is_byte byte x) refl (none_there byte xs)
 
 -- a word without an equals sign is a report without a name
 pub unnamed : (word : List ℕ) → position_or_len (is_byte equals_sign) word ≡ length word → named_of word ≡ (None, word)
-unnamed word none =
-    ap (λ b. cond (b && not (list_any (is_byte slash) (before_first (is_byte equals_sign) word)))
-    (Some (before_first (is_byte equals_sign) word), after_first (is_byte equals_sign) word) (None, word))
-    (none_there equals_sign word none)
+unnamed word none = grind (arith, common_steps, none_there)

@@ -1,16 +1,17 @@
 -- A value that was read of an argument passed the argument's parser.
-use Rattle.std.proofs.Common.{◌++◌, ◌||◌, ◌≡◌, ◌∙◌, ◌<◌, ◌≤◌, ap, ℕ, zero, suc, Bool, true, false, List, [], ◌∷◌, length, Option, Some}
-use Rattle.std.proofs.{Common.{None, refl, sym, subst, inl, inr, arith}, lemmas.Slice.Eq.bytes_eq-Decides}
-use Rattle.std.proofs.lemmas.List.{append-nil, append_assoc, Elements.{All-get_or, All-nil}}
+use Rattle.std.proofs.{lemmas.{Grind.common_steps, Slice.Eq.bytes_eq-Decides}}
+use Rattle.std.proofs.{lemmas.List.{append-nil, append_assoc, Elements.{All-get_or, All-nil}}, Common.{◌++◌, ◌||◌, ◌≡◌, ◌∙◌, ◌<◌, ◌≤◌, ap}}
+use Rattle.std.proofs.{Common.{ℕ, suc, Bool, true, false, List, [], ◌∷◌, length, Option, Some, None, refl, sym, subst, inl, inr}}
+use Rattle.std.proofs.Common.{arith}
 use Rattle.std.specs.{List.{All, slice_index_or}, Str.{bytes_eq, Parse.{ParsesUnsigned, digits_value, without_leading_plus}}}
 use Rattle.std.specs.{Prelude.{option_map, slice_get, unwrap_or, ◌^◌, Result, Ok, pos}, Borrow.Bor}
 use Rattle.clap.specs.{Lexer.without_minus, Values.{IsSignedIn, Accepts, read_as, reading_of}, Matches.{ReadsOne, matched_of, one_text}}
 use Rattle.clap.specs.{Matches.{found_of, has_subcommand}, Facts.{args_of, groups_of, IsParsed, Entry, EntryPasses, PassesArg, HasReading}}
 use Rattle.clap.specs.{Facts.{parser_of, parser_of_value}, Built.{AddsInTurn, HasDistinctIds, FitsChain, KeepsList, IsPlain, IsPlainArg}}
-use Rattle.clap.specs.Built.{IsParsedFrom, IsAuto, AddsArg, SameRules}
-use Rattle.clap.specs.declared.builder.{value_parser.{Reading.Reading, ValueParser.ValueParser}, arg.Arg.Arg}
-use Rattle.clap.specs.declared.builder.command.Command.{Command, TheViews.out-Command}
-use Rattle.clap.specs.declared.parser.matches.{ArgMatches.ArgMatches, MatchedArg.MatchedArg}
+use Rattle.clap.specs.{Built.{IsParsedFrom, IsAuto, AddsArg, SameRules}}
+use Rattle.clap.specs.declared.builder.{value_parser.{Reading.Reading, ValueParser.ValueParser}}
+use Rattle.clap.specs.declared.builder.{arg.Arg.Arg, command.Command.{Command, TheViews.out-Command}}
+use Rattle.clap.specs.{declared.parser.matches.{ArgMatches.ArgMatches, MatchedArg.MatchedArg}}
 use Rattle.clap.proofs.{CallerReads.signed_reads, CallerLemmas.{entry_by_id, same_rules_by_id, added_plain}}
 
 -- the rest of a list of which all pass
@@ -20,8 +21,7 @@ all_rest P x xs h = λ k d lt. h (suc k) d (omega arith)
 chain_places : (x y : Arg) (xs ys : List Arg) → SameRules x y
     → ((k : ℕ) (e g : Arg) → k < length xs → SameRules (slice_index_or xs k e) (slice_index_or ys k g))
     → (k : ℕ) (e g : Arg) → k < length (x ∷ xs) → SameRules (slice_index_or (x ∷ xs) k e) (slice_index_or (y ∷ ys) k g)
-chain_places x y xs ys r rest zero e g lt = r
-chain_places x y xs ys r rest (suc n) e g lt = rest n e g (omega arith)
+chain_places x y xs ys r rest k e g lt = grind (arith, common_steps)
 
 chain_facts : (c d : Command) (xs : List Arg) → AddsInTurn AddsArg c xs d → All FitsChain xs → IsPlain c
     → (out-Command c).has_globals ≡ false
@@ -63,10 +63,7 @@ only_reading old m p k d lt unique own q parser r any =
 
 accepts_of : (a y : Arg) (q : ValueParser) (t : List ℕ) → SameRules a y → a.value_parser ≡ Some q
     → Accepts y.ignore_case (parser_of y) t → Accepts a.ignore_case q t
-accepts_of a y q t s parser read =
-    let is_q : parser_of y ≡ q = ap parser_of_value (s.parser q parser) in
-    let as_q : Accepts y.ignore_case q t = subst (λ (w : ValueParser). Accepts y.ignore_case w t) is_q read in
-    subst (λ (b : Bool). Accepts b q t) s.ignore_case as_q
+accepts_of a y q t s parser read = grind (arith, common_steps)
 
 passes_read : (old : Command) (m : ArgMatches) (p : IsParsedFrom old m) (k : ℕ) (d : Arg) → k < length (args_of old)
     → ((j : ℕ) (e : Arg) → j < length (args_of old)

@@ -1,37 +1,27 @@
 -- Words that fail, and what is said of them.
-use Rattle.std.proofs.Common.{◌≡◌, ◌∙◌, ℕ, Bool, true, false, List, [], refl, ap, sym, subst, inl, inr, Result, Err, Option, Some, None}
-use Rattle.std.proofs.Common.{codes}
+use Rattle.std.proofs.{Common.{arith, ◌≡◌, ◌∙◌, ℕ, Bool, true, false, List, [], refl, ap, Result, Err, Option, Some}}
+use Rattle.std.proofs.{Common.{codes}, lemmas.Grind.common_steps}
 use Rattle.std.specs.{Borrow.Bor, Prelude.{map, option_map, unwrap_or}, Str.Parse.{digits_value, without_leading_plus}}
 use Rattle.clap.specs.{Faults.{fault_of, is_simple_and_free}, Kinds.{FailsBy, HasKind, Kinds}, Simple.{App, HasMatchesOf, app_of}}
 use Rattle.clap.specs.{Simple.{is_simple, matches_of}, Matches.{found_of, first_value, matched_of, one_text, raw_values}, Values.kind_of}
-use Rattle.clap.specs.{Walk.{Row, Text, all_of, first_of, one_of, rows_of}, declared.{builder.command.Command.Command, error.Error.Error}}
-use Rattle.clap.specs.declared.parser.matches.{ArgMatches.ArgMatches, Found.Found}
+use Rattle.clap.specs.{Walk.{Row, Text, first_of, rows_of}, declared.{builder.command.Command.Command, error.Error.Error}}
+use Rattle.clap.specs.{declared.parser.matches.{ArgMatches.ArgMatches, Found.Found}}
 use Rattle.clap.proofs.{WalkLemmas.{first_value-rows, one_text-rows, raw_values-rows}, OnLiterals.clap_on_literals}
-use Rattle.lc_arguments.specs.{CommandLine.{command_app, lc_app}, Explained.Explains, Words.IsFlag}
-use Rattle.lc_arguments.specs.declared.option_row.Subcommand.{Subcommand, TheVariants.{Count, Explain, Check, Sum, Diff, Languages}}
-use Rattle.lc_arguments.specs.{Words.{IsText, IsNoRequestBy, texts_read}, ReadNumbers.{IsNumber, number_if_given}}
-use Rattle.lc_arguments.specs.declared.request.ParseExit.{ParseExit, TheVariants.{Shown, Refused, Memory}}
+use Rattle.lc_arguments.specs.{CommandLine.{command_app, lc_app}, Explained.Explains, Words.{IsFlag, IsText, IsNoRequestBy, texts_read}}
+use Rattle.lc_arguments.specs.{declared.option_row.Subcommand.{Subcommand}}
+use Rattle.lc_arguments.specs.{declared.request.ParseExit.{ParseExit}, ReadNumbers.IsNumber}
+use Rattle.lc_arguments.specs.ReadNumbers.{number_if_given}
 use Rattle.clap.specs.declared.error.kind.ErrorKind.TheVariants as kind
 
 -- each command is of the simple kind, of which clap says all
 pub command_is_simple : (command : Subcommand) → is_simple (command_app command) ≡ true
 unfolding clap_on_literals
-command_is_simple Count = refl
-command_is_simple Explain = refl
-command_is_simple Check = refl
-command_is_simple Sum = refl
-command_is_simple Diff = refl
-command_is_simple Languages = refl
+command_is_simple command = grind (arith, common_steps, clap_on_literals)
 
 -- and asks for nothing that clap leaves open
 pub command_is_free : (command : Subcommand) → is_simple_and_free (command_app command) ≡ true
 unfolding clap_on_literals
-command_is_free Count = refl
-command_is_free Explain = refl
-command_is_free Check = refl
-command_is_free Sum = refl
-command_is_free Diff = refl
-command_is_free Languages = refl
+command_is_free command = grind (arith, common_steps, clap_on_literals)
 
 -- nor does lc
 pub lc_is_free : is_simple_and_free lc_app ≡ true
@@ -40,54 +30,34 @@ lc_is_free = refl
 
 -- memory is no text that was asked for
 memory_is_no_text : (e : Error) → kind_of e ≡ kind.OutOfMemory → IsText (kind_of e) → ⊥
-memory_is_no_text e is text = elim text [
-  | inl help ↦ let bad : kind.OutOfMemory ≡ kind.DisplayHelp = sym is ∙ help in cc
-  | inr version ↦ let bad : kind.OutOfMemory ≡ kind.DisplayVersion = sym is ∙ version in cc
-]
+memory_is_no_text e is text = grind (arith, common_steps)
 
 -- what an error of these kinds becomes
 pub no_request_by : (kinds : Kinds) (e : Error) (why : ParseExit) → HasKind kinds e → Explains e why → IsNoRequestBy kinds why
-no_request_by kinds e (Shown text) has is = elim has [
-  | inl memory ↦ absurd (memory_is_no_text e memory is)
-  | inr among ↦ (kind_of e, among, is)
-]
-no_request_by kinds e (Refused text) has is = elim has [
-  | inl memory ↦ absurd (is.0 memory)
-  | inr among ↦ (kind_of e, among, is.1)
-]
-no_request_by kinds e Memory has is = tt
+no_request_by kinds e why has is = grind (arith, common_steps, memory_is_no_text)
 
 -- a command that clap sees as this one fails as this one
 pub fails_as : {T : Type 0} (c : Command) (a : App) (words : List Text) (answer : Result T Error) → app_of c ≡ a
     → is_simple_and_free a ≡ true
     → (is_simple_and_free (app_of c) ≡ true → FailsBy (fault_of (app_of c) words) answer) → FailsBy (fault_of a words) answer
-fails_as c a words answer is free kinds =
-    subst (λ (b : App). FailsBy (fault_of b words) answer) is (kinds (ap is_simple_and_free is ∙ free))
+fails_as c a words answer is free kinds = grind (arith, common_steps)
 
 -- and has its matches
 pub matches_as : (c : Command) (a : App) (words : List Text) (m : ArgMatches) → app_of c ≡ a → is_simple a ≡ true
     → HasMatchesOf (app_of c) words m → rows_of (found_of m) ≡ matches_of a words
-matches_as c a words m is simple has =
-    (subst (λ (b : App). HasMatchesOf b words m) is has simple).0
+matches_as c a words m is simple has = grind (arith, common_steps)
 
 -- what an error of such a command becomes
 pub no_request_of : (c : Command) (a : App) (words : List Text) (e : Error) (why : ParseExit) → app_of c ≡ a → is_simple_and_free a ≡ true
     → (is_simple_and_free (app_of c) ≡ true → FailsBy {T = ArgMatches} (fault_of (app_of c) words) (Err e)) → Explains e why
     → IsNoRequestBy (fault_of a words) why
-no_request_of c a words e why is free kinds explains =
-    no_request_by (fault_of a words) e why (fails_as {T = ArgMatches} c a words (Err e) is free kinds) explains
+no_request_of c a words e why is free kinds explains = grind (arith, common_steps, no_request_by, fails_as)
 
 -- a text that was read, or the default
 pub text_or : {default : Text} (rows : List Row) (f : Found) (id : Text) (o : Option (Bor Text)) (other result : Bor Text)
     → rows_of f ≡ rows → option_map (λ s. s.now) o ≡ first_value f id → other.now ≡ default → result ≡ unwrap_or o other
     → result.now ≡ unwrap_or (first_of id rows) default
-text_or {default} rows f id o other result are read empty is =
-    go o is (read ∙ (first_value-rows f id ∙ ap (first_of id) are))
-  where
-    go : (o' : Option (Bor Text)) → result ≡ unwrap_or o' other → option_map (λ s. s.now) o' ≡ first_of id rows
-        → result.now ≡ unwrap_or (first_of id rows) default
-    go None e g = ap (λ (b : Bor Text). b.now) e ∙ (empty ∙ ap (λ (v : Option Text). unwrap_or v default) g)
-    go (Some t) e g = ap (λ (b : Bor Text). b.now) e ∙ ap (λ (v : Option Text). unwrap_or v default) g
+text_or rows f id o other result is are read empty = grind (arith, common_steps, first_value-rows)
 
 -- a text that was read is the first of its argument
 pub text_of : (rows : List Row) (f : Found) (id : Text) (o : Option (Bor Text)) → rows_of f ≡ rows
@@ -98,32 +68,20 @@ text_of rows f id o are read = read ∙ (first_value-rows f id ∙ ap (first_of 
 -- a flag that was read is that of the words
 pub flag_of : (rows : List Row) (f : Found) (id : Text) (b : Bool) → rows_of f ≡ rows
     → (one_text f id ≡ Some (codes "true") → b ≡ true) → (one_text f id ≡ Some (codes "false") → b ≡ false) → IsFlag id rows b
-flag_of rows f id b are set unset =
-    let same : one_text f id ≡ one_of id rows = one_text-rows f id ∙ ap (one_of id) are in
-    (λ yes. set (same ∙ yes), λ not_set. unset (same ∙ not_set))
+flag_of rows f id b are set unset = grind (arith, common_steps, one_text-rows)
 
 -- a number that was read is that of the words, or the default
 pub number_of : (rows : List Row) (f : Found) (id default : Text) (n : ℕ) → rows_of f ≡ rows
     → n ≡ digits_value 10 (without_leading_plus (unwrap_or (one_text f id) default)) → IsNumber id default rows n
-number_of rows f id default n are is =
-    let same : one_text f id ≡ one_of id rows = one_text-rows f id ∙ ap (one_of id) are in
-    is ∙ ap (λ (o : Option Text). digits_value 10 (without_leading_plus (unwrap_or o default))) same
+number_of rows f id default n are is = grind (arith, common_steps, one_text-rows)
 
 -- a number that was read, where one was, is that of the words
 pub number_if_of : (rows : List Row) (f : Found) (id : Text) (n : Option ℕ) → rows_of f ≡ rows
     → n ≡ option_map (λ (t : Text). digits_value 10 (without_leading_plus t)) (one_text f id) → n ≡ number_if_given id rows
-number_if_of rows f id n are is =
-    is ∙ ap (option_map (λ (t : Text). digits_value 10 (without_leading_plus t))) (one_text-rows f id ∙ ap (one_of id) are)
+number_if_of rows f id n are is = grind (arith, common_steps, one_text-rows)
 
 -- texts that were read are those of the words, or none
 pub texts_of : (rows : List Row) (f : Found) (id : Text) (o : Option (Bor (List (Bor Text)))) (none result : Bor (List (Bor Text)))
     → rows_of f ≡ rows → option_map (λ s. map (λ v. v.now) s.now) o ≡ option_map raw_values (matched_of f id) → none.now ≡ []
     → result ≡ unwrap_or o none → map (λ v. v.now) result.now ≡ texts_read id rows
-texts_of rows f id o none result are read empty is =
-    go o is (read ∙ (raw_values-rows f id ∙ ap (all_of id) are))
-  where
-    go : (o' : Option (Bor (List (Bor Text)))) → result ≡ unwrap_or o' none
-        → option_map (λ s. map (λ v. v.now) s.now) o' ≡ all_of id rows → map (λ v. v.now) result.now ≡ texts_read id rows
-    go None e g = ap (λ (b : Bor (List (Bor Text))). map (λ v. v.now) b.now) e
-        ∙ (ap (map (λ v. v.now)) empty ∙ ap (λ (t : Option (List Text)). unwrap_or t []) g)
-    go (Some t) e g = ap (λ (b : Bor (List (Bor Text))). map (λ v. v.now) b.now) e ∙ ap (λ (t : Option (List Text)). unwrap_or t []) g
+texts_of rows f id o none result are read empty is = grind (arith, common_steps, raw_values-rows)

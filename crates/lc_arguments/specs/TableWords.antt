@@ -1,7 +1,8 @@
 -- The table that the words of a command line request.
 use Rattle.std.specs.Prelude.{◌≡◌, ◌≤◌, ◌<◌, ◌⊎◌, ◌||◌, ◌+◌, ℕ, Bool, true, false, cond, List, [], length, filter, Option, Some, None}
 use Rattle.std.specs.Prelude.{option_map, unwrap_or}
-use Rattle.std.specs.{Bool.MatchBool, Prelude.{is_none, is_some, codes, IfSome}, Option.option_map_or, List.{list_all, list_any}, Str.bytes_eq}
+use Rattle.std.specs.{Bool.MatchBool, Prelude.{is_none, is_some, codes, IfSome}, Option.option_map_or, List.{list_all, list_any}}
+use Rattle.std.specs.Str.{bytes_eq}
 use Rattle.lc_glob.specs.Pieces.{pieces_of}
 use Rattle.lc_sheet.specs.{Keys.{has_key, key_name, keys}, declared.key.Key.{Key, TheVariants.Attribute}}
 use Rattle.lc_sheet.specs.declared.table_options.{Columns.Columns, Format.{Format, TheVariants.{Tsv, Table, Json, Csv, Markdown}}}

@@ -61,17 +61,6 @@ fn with_default<'a>(arg: Arg<'a>, default: Option<&'static str>) -> Arg<'a>
     }
 }
 
-/// Adds the help texts of a row to an argument.
-fn with_help<'a>(arg: Arg<'a>, row: &'static OptionRow) -> Arg<'a>
-    ensures { (rule : Rule) → IsArgOf rule arg.entry → IsArgOf rule result }
-{
-    let arg = arg.help(row.help);
-    if row.heading.is_empty() {
-        return arg;
-    }
-    arg.long_help(row.long_help()).help_heading(row.heading)
-}
-
 /// Makes the clap argument for a row of the table of options.
 fn arg<'a>(alloc: Global, row: &'static OptionRow) -> Arg<'a>
     requires own { is_own_name row.now.name.now ≡ true }
@@ -79,8 +68,11 @@ fn arg<'a>(alloc: Global, row: &'static OptionRow) -> Arg<'a>
 {
     let arg = with_kind(alloc, row);
     let arg = with_letter(arg, row.short);
-    let arg = with_default(arg, row.default);
-    with_help(arg, row)
+    let arg = with_default(arg, row.default).help(row.help);
+    if row.heading.is_empty() {
+        return arg;
+    }
+    arg.long_help(row.long_help()).help_heading(row.heading)
 }
 
 /// Makes a clap argument for each of these rows that belongs to a command.

@@ -8,7 +8,7 @@ ghost use Rattle.clap.specs.Matches.{found_of};
 ghost use Rattle.clap.specs.Walk.{rows_of};
 ghost use Rattle.lc_glob.specs.Pieces.{pieces_left};
 ghost use Rattle.lc_arguments.specs.AttributeWords.{after_name, attribute_named, attributes_asked, attributes_by, column_named};
-ghost use Rattle.lc_arguments.specs.AttributeWords.{column_tested, ends_name, how_often, is_among, name_in, names_column};
+ghost use Rattle.lc_arguments.specs.AttributeWords.{column_tested, ends_name, how_often, is_among, names_column};
 ghost use Rattle.lc_arguments.specs.AttributeWords.{new_names, place_of};
 ghost use Rattle.lc_arguments.specs.Explained.{AnswersAttributes};
 ghost use Rattle.lc_arguments.specs.Texts.{comma};
@@ -73,22 +73,13 @@ fn after_name(text: &[u8]) -> &[u8]
     left
 }
 
-/// Splits the text of a condition after the name of its column.
-fn split_name(text: &[u8]) -> (&[u8], &[u8])
-    ensures name { result.0.now ≡ name_in text.entry.now }
-    ensures rest { result.1.now ≡ after_name text.entry.now }
-{
-    let rest = after_name(text);
-    let (name, _) = text.split_at(text.len().saturating_sub(rest.len()));
-    (name, rest)
-}
-
 /// Returns the name of the column that a condition tests, if it is `lang` or that of an attribute, and the text after the name.
 pub(crate) fn column_tested(text: &[u8]) -> (Option<&str>, &[u8])
     ensures column { option_map (λ column. column.now) result.0 ≡ column_tested text.entry.now }
     ensures rest { result.1.now ≡ after_name text.entry.now }
 {
-    let (name, rest) = split_name(text);
+    let rest = after_name(text);
+    let (name, _) = text.split_at(text.len().saturating_sub(rest.len()));
     (column_named(name), rest)
 }
 

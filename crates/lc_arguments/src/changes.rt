@@ -5,7 +5,7 @@ ghost use Rattle.std.specs.List.{list_all, list_any};
 ghost use Rattle.clap.specs.Matches.{found_of};
 ghost use Rattle.clap.specs.Walk.{rows_of};
 ghost use Rattle.lc_arguments.specs.ConditionWords.{allows, changes_of, compares_sides};
-ghost use Rattle.lc_arguments.specs.Explained.{AnswersOneSided, AnswersOneSidedIn};
+ghost use Rattle.lc_arguments.specs.Explained.{AnswersOneSidedIn};
 ghost use Rattle.lc_arguments.specs.Words.{values_read};
 ghost use Rattle.lc_arguments.specs.declared.repeated.Repeated.TheVariants.{Conditions};
 
@@ -42,24 +42,17 @@ fn all_allow(texts: &[&str], kind: &'static str) -> bool
     true
 }
 
-/// Returns the kinds of files that the condition of each text allows.
-fn changes_of(texts: &[&str]) -> ChangeKinds
-    ensures { result ≡ changes_of (map (λ text. text.now) texts.now) }
+/// Reads from clap's values the kinds of files that all conditions on `change` allow.
+pub(crate) fn changes_in(matches: &ArgMatches<'_>) -> ChangeKinds
+    ensures { result ≡ changes_of (values_read (rows_of (found_of matches.now)) Conditions) }
 {
+    let texts = matches.get_strs("where").unwrap_or(&[]);
     ChangeKinds {
         added: all_allow(texts, "added"),
         changed: all_allow(texts, "changed"),
         removed: all_allow(texts, "removed"),
         same: all_allow(texts, "same"),
     }
-}
-
-/// Reads from clap's values the kinds of files that all conditions on `change` allow.
-pub(crate) fn changes_in(matches: &ArgMatches<'_>) -> ChangeKinds
-    ensures { result ≡ changes_of (values_read (rows_of (found_of matches.now)) Conditions) }
-{
-    let texts = matches.get_strs("where").unwrap_or(&[]);
-    changes_of(texts)
 }
 
 /// Finds the first text whose column is `change`.
@@ -76,11 +69,11 @@ fn first_compared<'w>(texts: &[&'w str]) -> Option<&'w str>
     None
 }
 
-/// Refuses a condition on `change` among these texts.
-fn refuse_compared(alloc: Global, texts: &[&str]) -> Result<(), ParseExit>
-    ensures { AnswersOneSided (map (λ text. text.now) texts.now) result }
+/// Refuses a condition on `change` among clap's values.
+pub(crate) fn one_sided(alloc: Global, matches: &ArgMatches<'_>) -> Result<(), ParseExit>
+    ensures { AnswersOneSidedIn (rows_of (found_of matches.now)) result }
 {
-    match first_compared(texts) {
+    match first_compared(matches.get_strs("where").unwrap_or(&[])) {
         None => Ok(()),
         Some(text) => Err(refused(
             alloc,
@@ -89,12 +82,4 @@ fn refuse_compared(alloc: Global, texts: &[&str]) -> Result<(), ParseExit>
             ": change compares two sides, as lc diff does; the columns are lang, ext, text, eol, attr:NAME, lines, blank and bytes",
         )),
     }
-}
-
-/// Refuses a condition on `change` among clap's values.
-pub(crate) fn one_sided(alloc: Global, matches: &ArgMatches<'_>) -> Result<(), ParseExit>
-    ensures { AnswersOneSidedIn (rows_of (found_of matches.now)) result }
-{
-    let texts = matches.get_strs("where").unwrap_or(&[]);
-    refuse_compared(alloc, texts)
 }

@@ -1,8 +1,9 @@
 //! Options that can't be combined.
 
 ghost use Rattle.std.specs.Prelude.{◌≡◌, ◌&&◌, is_some, not};
-ghost use Rattle.lc_arguments.specs.Combinations.{asks_for_paths, asks_for_rows, boxes_fit, diff_fits, fit_together, has_one_kind, is_by_name};
-ghost use Rattle.lc_arguments.specs.Combinations.{is_dash, narrows, null_fits, paths_fit, reads_input_once};
+ghost use Rattle.lc_arguments.specs.Combinations.{asks_for_paths, asks_for_rows, boxes_fit, diff_fits, fit_together, has_one_kind};
+ghost use Rattle.lc_arguments.specs.Combinations.{is_by_name};
+ghost use Rattle.lc_arguments.specs.Combinations.{is_dash, narrows, paths_fit, reads_input_once};
 ghost use Rattle.lc_arguments.specs.Combinations.{shows_differences, shows_shares, sum_fits, table_fits, takes_input, walk_fits};
 
 use crate::count::CountRequest;
@@ -136,16 +137,6 @@ fn paths_misfit(request: &CountRequest<'_>) -> Option<&'static str>
     None
 }
 
-/// Returns the error if there are no paths that `--null` could end.
-fn null_misfit(request: &CountRequest<'_>) -> Option<&'static str>
-    ensures { is_some result ≡ not (null_fits request.now) }
-{
-    if walk_misfit(&request.walk).is_some() && !request.table.is_paths() {
-        return Some("'--null' needs '--only-from <FILE>' or '--format paths'");
-    }
-    None
-}
-
 /// Returns why the options of `lc count` can't be combined, or `None` if they can.
 pub(crate) fn misfit(request: &CountRequest<'_>) -> Option<&'static str>
     ensures { is_some result ≡ not (fit_together request.now) }
@@ -153,8 +144,8 @@ pub(crate) fn misfit(request: &CountRequest<'_>) -> Option<&'static str>
     if let Some(why) = table_misfit(request.table, request.left_out) {
         return Some(why);
     }
-    if let Some(why) = null_misfit(request) {
-        return Some(why);
+    if walk_misfit(&request.walk).is_some() && !request.table.is_paths() {
+        return Some("'--null' needs '--only-from <FILE>' or '--format paths'");
     }
     paths_misfit(request)
 }

@@ -4,7 +4,7 @@ ghost use Rattle.std.specs.Prelude.{◌≡◌, map, option_map};
 ghost use Rattle.lc_arguments.specs.Texts.{after_front};
 ghost use Rattle.lc_arguments.specs.ConditionWords.{can_have, can_have_all, compares_sides, is_change};
 ghost use Rattle.lc_arguments.specs.ConditionWords.{column_among, column_at, comparison_of, condition_columns, condition_of};
-ghost use Rattle.lc_arguments.specs.ConditionWords.{condition_with, is_after_dot, list_condition, number_condition, number_in, operator_at};
+ghost use Rattle.lc_arguments.specs.ConditionWords.{condition_with, is_after_dot, list_condition, number_in, operator_at};
 ghost use Rattle.lc_arguments.specs.ConditionWords.{digits_from, is_digit, with_digit, without_spaces};
 
 use crate::attributes::{column_tested, place_of};
@@ -209,28 +209,14 @@ fn list_condition(column: Column, comparison: Comparison, texts: &[u8]) -> Optio
     }
 }
 
-/// Makes the condition that compares a column with a number, if there is a number.
-fn number_condition<'w>(
-    column: Column,
-    comparison: Comparison,
-    number: Option<u64>,
-) -> Option<Condition<'w>>
-    ensures { result ≡ number_condition column comparison number }
-{
-    match number {
-        None => None,
-        Some(number) => Some(Condition {
-            column,
-            test: Test::Compared(comparison, number),
-        }),
-    }
-}
-
 fn condition_with(column: Column, comparison: Comparison, values: &[u8]) -> Option<Condition<'_>>
     ensures { result ≡ condition_with column comparison values.entry.now }
 {
     match column {
-        Column::Number(_) => number_condition(column, comparison, number_in(values)),
+        Column::Number(_) => Some(Condition {
+            column,
+            test: Test::Compared(comparison, number_in(values)?),
+        }),
         _ => list_condition(column, comparison, values),
     }
 }
@@ -262,11 +248,6 @@ pub(crate) fn compares_sides(text: &[u8]) -> bool
     }
 }
 
-/// Returns whether this byte is part of an operator.
-fn is_operator_byte(byte: u8) -> bool {
-    matches!(byte, b'!' | b'<' | b'=' | b'>')
-}
-
 /// Returns the end of a usage error about a column: the operators and values that a condition on the column can have.
 fn values_of(column: Column) -> &'static str {
     match column {
@@ -296,7 +277,10 @@ pub(crate) fn why_no_condition(text: &[u8]) -> &'static str {
     if text.starts_with(b"size") {
         return ": the column of a file's size is bytes";
     }
-    if !text.iter().any(|byte| is_operator_byte(*byte)) {
+    if !text
+        .iter()
+        .any(|byte| matches!(*byte, b'!' | b'<' | b'=' | b'>'))
+    {
         return ": it has no operator; quote a condition, as in --where 'lines>1000'";
     }
     let (tested, _) = column_tested(text);

@@ -6,7 +6,7 @@ ghost use Rattle.std.specs.Str.{bytes_eq};
 ghost use Rattle.clap.specs.Matches.{found_of};
 ghost use Rattle.clap.specs.Walk.{rows_of};
 ghost use Rattle.lc_arguments.specs.Directories.{are_distinct, or_default, unslashed};
-ghost use Rattle.lc_arguments.specs.Explained.{AnswersDirectories, AnswersDirectoriesIn, IsRefusal};
+ghost use Rattle.lc_arguments.specs.Explained.{AnswersDirectoriesIn, IsRefusal};
 
 use crate::request::{ParseExit, unfit};
 use clap::ArgMatches;
@@ -78,16 +78,6 @@ pub(crate) fn or_default<'w>(
     words.to_vec(alloc)
 }
 
-/// Returns the directories unchanged, or a refusal if one of them is named twice.
-fn distinct<'w>(alloc: Global, directories: Vec<&'w str>) -> Result<Vec<&'w str>, ParseExit>
-    ensures { AnswersDirectories (map (λ directory. directory.now) directories.entry.items) result }
-{
-    match given_twice(&directories) {
-        None => Ok(directories),
-        Some(directory) => Err(repeated(alloc, directory)),
-    }
-}
-
 /// Reads the directories from clap's values, in their order. If clap has none, the only directory is `.`, the current directory.
 pub(crate) fn directories_in<'w>(
     alloc: Global,
@@ -96,8 +86,11 @@ pub(crate) fn directories_in<'w>(
     ensures { AnswersDirectoriesIn (rows_of (found_of matches.now)) result }
 {
     let words = matches.get_strs("DIR").unwrap_or(&[]);
-    match or_default(alloc, words, ".") {
-        Ok(directories) => distinct(alloc, directories),
-        Err(AllocError) => Err(ParseExit::Memory),
+    let Ok(directories) = or_default(alloc, words, ".") else {
+        return Err(ParseExit::Memory);
+    };
+    match given_twice(&directories) {
+        None => Ok(directories),
+        Some(directory) => Err(repeated(alloc, directory)),
     }
 }

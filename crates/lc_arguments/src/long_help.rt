@@ -190,7 +190,7 @@ and its pattern; - and - if no rule decides",
         "null",
         WHAT_IS_PRINTED,
         "The paths of --format paths end with NUL, as xargs -0 reads them.
-Without --null, a path with a line feed is not printed",
+Without --null, --format paths does not print a path with a line feed",
     ),
     (
         "null",

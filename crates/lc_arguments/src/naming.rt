@@ -3,9 +3,9 @@
 
 ghost use Rattle.std.specs.Prelude.{◌≡◌, ◌++◌, IfOk, OnOk, codes, map, string_bytes, true};
 ghost use Rattle.std.specs.Str.Iter.{HasSubslice};
-ghost use Rattle.lc_arguments.specs.Naming.{IsNamingError, IsTextOf, Names, NamesAll, NamesOne, NamesSome, QuotesSome, is_telling};
-ghost use Rattle.lc_arguments.specs.Naming.{mark_after, mark_before, named_by, named_command};
-ghost use Rattle.lc_arguments.specs.Options.{is_of, option_model};
+ghost use Rattle.lc_arguments.specs.Naming.{IsNamingError, IsTextOf, Names, NamesAll, NamesSome, QuotesSome};
+ghost use Rattle.lc_arguments.specs.Naming.{mark_after, mark_before, named_command};
+ghost use Rattle.lc_arguments.specs.Options.{option_model};
 ghost use Rattle.lc_text.specs.Visible.{visible_bytes};
 
 use crate::error_text::problem_of;
@@ -38,14 +38,6 @@ fn mark_after(kind: Kind) -> &'static str
     }
 }
 
-/// Returns whether a usage error that names an argument of this kind shows what is wrong. An argument of the kind `Words` is in each usage
-/// line, so its name shows nothing.
-fn is_telling(kind: Kind) -> bool
-    ensures { result ≡ is_telling kind }
-{
-    !matches!(kind, Kind::Words)
-}
-
 /// Returns whether a text contains a part.
 fn has(text: &str, part: &str) -> bool
     ensures { result ≡ true → HasSubslice text.now part.now }
@@ -63,20 +55,6 @@ fn names(alloc: Global, text: &str, row: &OptionRow) -> Result<bool, AllocError>
     Ok(has(text, marked.as_str()))
 }
 
-fn names_if_of(
-    alloc: Global,
-    text: &str,
-    command: Subcommand,
-    row: &OptionRow,
-) -> Result<bool, AllocError>
-    ensures { IfOk result (λ named. named ≡ true → is_of command row.now.of ≡ true → Names text.now (option_model row.now)) }
-{
-    if row.of.has(command) {
-        return names(alloc, text, row);
-    }
-    Ok(true)
-}
-
 /// Returns whether a text names each argument of a command.
 fn names_all(
     alloc: Global,
@@ -88,8 +66,7 @@ fn names_all(
 {
     let mut rest = rows;
     'rows: while let Some((row, others)) = rest.split_first() {
-        let named = names_if_of(alloc, text, command, row)?;
-        if !named {
+        if row.of.has(command) && !names(alloc, text, row)? {
             return Ok(false);
         }
         rest = others;
@@ -97,23 +74,14 @@ fn names_all(
     Ok(true)
 }
 
-fn names_telling(alloc: Global, text: &str, row: &OptionRow) -> Result<bool, AllocError>
-    ensures { IfOk result (λ named. named ≡ true → (is_telling row.now.kind ≡ true) × Names text.now (option_model row.now)) }
-{
-    if is_telling(row.kind) {
-        return names(alloc, text, row);
-    }
-    Ok(false)
-}
-
-/// Returns whether a text names one of these arguments. Arguments of the kind `Words` do not count.
+/// Returns whether a text names one of these arguments. Arguments of the kind `Words` do not count: they are in each usage line, so their
+/// names do not show what is wrong.
 fn names_some(alloc: Global, text: &str, rows: &[OptionRow]) -> Result<bool, AllocError>
     ensures { IfOk result (λ named. named ≡ true → NamesSome (map option_model rows.now) text.now) }
 {
     let mut rest = rows;
     'rows: while let Some((row, others)) = rest.split_first() {
-        let named = names_telling(alloc, text, row)?;
-        if named {
+        if !matches!(row.kind, Kind::Words) && names(alloc, text, row)? {
             return Ok(true);
         }
         rest = others;
@@ -143,8 +111,7 @@ fn quotes_some<W: AsStr>(alloc: Global, text: &str, words: &[W]) -> Result<bool,
 {
     let mut rest = words;
     'words: while let Some((word, others)) = rest.split_first() {
-        let quoted = quotes(alloc, text, word.as_str())?;
-        if quoted {
+        if quotes(alloc, text, word.as_str())? {
             return Ok(true);
         }
         rest = others;
@@ -152,18 +119,8 @@ fn quotes_some<W: AsStr>(alloc: Global, text: &str, words: &[W]) -> Result<bool,
     Ok(false)
 }
 
-/// Returns whether a text has a typed argument in quotes, or names an argument of the table of options. `words` are the typed arguments.
-fn names_one<W: AsStr>(alloc: Global, text: &str, words: &[W]) -> Result<bool, AllocError>
-    ensures { IfOk result (λ named. named ≡ true → NamesOne (map W.text words.now) text.now) }
-{
-    let quoted = quotes_some(alloc, text, words)?;
-    if quoted {
-        return Ok(true);
-    }
-    names_some(alloc, text, options())
-}
-
-/// Returns whether the first paragraph of a usage error names an argument.
+/// Returns whether the first paragraph of a usage error has one of the typed arguments `words` in quotes, or names an argument of the table
+/// of options.
 pub(crate) fn is_naming_error<W: AsStr>(
     alloc: Global,
     text: &str,
@@ -171,7 +128,12 @@ pub(crate) fn is_naming_error<W: AsStr>(
 ) -> Result<bool, AllocError>
     ensures { IfOk result (λ named. named ≡ true → IsNamingError (map W.text words.now) text.now) }
 {
-    names_one(alloc, problem_of(text), words)
+    let problem = problem_of(text);
+    let quoted = quotes_some(alloc, problem, words)?;
+    if quoted {
+        return Ok(true);
+    }
+    names_some(alloc, problem, options())
 }
 
 /// Adds all typed arguments, each in quotes, to the first paragraph of a usage error.
@@ -192,27 +154,6 @@ pub(crate) fn with_words<W: AsStr>(
     Ok(more)
 }
 
-fn named_by(word: &str) -> Option<Subcommand>
-    ensures { result ≡ named_by word.now }
-{
-    if word == "check" {
-        return Some(Subcommand::Check);
-    }
-    if word == "explain" {
-        return Some(Subcommand::Explain);
-    }
-    if word == "sum" {
-        return Some(Subcommand::Sum);
-    }
-    if word == "diff" {
-        return Some(Subcommand::Diff);
-    }
-    if word == "languages" {
-        return Some(Subcommand::Languages);
-    }
-    None
-}
-
 /// Returns the command that arguments name, or `None` if they name none.
 pub(crate) fn named_command<W: AsStr>(words: &[W]) -> Option<Subcommand>
     ensures { result ≡ named_command (map W.text words.now) }
@@ -223,15 +164,13 @@ pub(crate) fn named_command<W: AsStr>(words: &[W]) -> Option<Subcommand>
     if count_words(words).is_some() {
         return Some(Subcommand::Count);
     }
-    named_by(first.as_str())
-}
-
-fn is_text_for(alloc: Global, text: &str, command: Option<Subcommand>) -> Result<bool, AllocError>
-    ensures { IfOk result (λ named. named ≡ true → IsTextOf command text.now) }
-{
-    match command {
-        None => Ok(has(text, "lc")),
-        Some(command) => names_all(alloc, text, command, options()),
+    match first.as_str() {
+        "check" => Some(Subcommand::Check),
+        "explain" => Some(Subcommand::Explain),
+        "sum" => Some(Subcommand::Sum),
+        "diff" => Some(Subcommand::Diff),
+        "languages" => Some(Subcommand::Languages),
+        _ => None,
     }
 }
 
@@ -244,5 +183,8 @@ pub(crate) fn is_text_of<W: AsStr>(
 ) -> Result<bool, AllocError>
     ensures { IfOk result (λ named. named ≡ true → IsTextOf (named_command (map W.text words.now)) text.now) }
 {
-    is_text_for(alloc, text, named_command(words))
+    match named_command(words) {
+        None => Ok(has(text, "lc")),
+        Some(command) => names_all(alloc, text, command, options()),
+    }
 }

@@ -298,25 +298,11 @@ fn is_extension(word: &str) -> bool {
         && word.bytes().all(|byte| byte.is_ascii_alphanumeric())
 }
 
-fn is_number(word: &str, most: u32) -> bool {
-    match word.parse::<u32>() {
-        Ok(number) => number >= 1 && number <= most,
-        Err(_) => false,
-    }
-}
-
 /// Returns whether a terminal shows an argument unchanged, so that it can be typed again.
 pub(crate) fn is_shown_as_typed(alloc: Global, word: &str) -> Result<bool, AllocError> {
     let mut shown = String::new(alloc);
     push_visible(&mut shown, word.as_bytes())?;
     Ok(shown.as_str() == word)
-}
-
-fn is_word(alloc: Global, word: &str) -> Result<bool, AllocError> {
-    if word.is_empty() || word.starts_with('-') || word.starts_with('!') {
-        return Ok(false);
-    }
-    is_shown_as_typed(alloc, word)
 }
 
 impl ValueOption {
@@ -326,8 +312,12 @@ impl ValueOption {
             Takes::Extension => Ok(is_extension(value)),
             Takes::DottedExtension => Ok(is_extension(value.strip_prefix(".").unwrap_or(""))),
             Takes::Listed => Ok(is_listed(self.option, value)),
-            Takes::Number(most) => Ok(is_number(value, most)),
-            Takes::Word => is_word(alloc, value),
+            Takes::Number(most) => match value.parse::<u32>() {
+                Ok(number) => Ok(number >= 1 && number <= most),
+                Err(_) => Ok(false),
+            },
+            Takes::Word if matches!(value.as_bytes(), [] | [b'-', ..] | [b'!', ..]) => Ok(false),
+            Takes::Word => is_shown_as_typed(alloc, value),
         }
     }
 

@@ -1,7 +1,7 @@
 //! Escapes the texts of usage errors, so that no typed control character reaches a terminal.
 
-ghost use Rattle.std.specs.Prelude.{◌≡◌, ◌++◌, IfOk, OnOk, chars, flat_map, string_bytes};
-ghost use Rattle.lc_arguments.specs.Refusals.{IsMessage, message_char};
+ghost use Rattle.std.specs.Prelude.{IfOk, chars, flat_map, string_bytes};
+ghost use Rattle.lc_arguments.specs.Refusals.{IsMessage};
 
 use lc_text::push_visible;
 use std::alloc::{AllocError, Global};
@@ -21,16 +21,6 @@ pub(crate) fn visible_words<W: AsStr>(
     Ok(visible)
 }
 
-fn push_message_char(message: &mut String, c: char) -> Result<(), AllocError>
-    ensures { OnOk result (string_bytes message.new ≡ string_bytes message.old ++ message_char c) }
-{
-    if c == '\n' || c == '\\' {
-        return message.push(c);
-    }
-    let mut buffer = [0; 4];
-    push_visible(message, c.encode_utf8(&mut buffer).as_bytes())
-}
-
 /// Escapes a message, and adds `error: ` at its beginning if it is missing there. Each byte of a character that moves a terminal's cursor
 /// or turns the direction of text becomes `\x` and two digits. Backslashes stay as they are.
 ///
@@ -43,7 +33,12 @@ pub(crate) fn message(alloc: Global, text: &str) -> Result<String, AllocError>
     let mut message = String::from_str(alloc, "error: ")?;
     let rest = text.strip_prefix("error: ").unwrap_or(text);
     for c in rest.chars() {
-        push_message_char(&mut message, c)?;
+        if c == '\n' || c == '\\' {
+            message.push(c)?;
+        } else {
+            let mut buffer = [0; 4];
+            push_visible(&mut message, c.encode_utf8(&mut buffer).as_bytes())?;
+        }
     }
     Ok(message)
 }

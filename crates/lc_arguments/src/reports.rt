@@ -118,16 +118,6 @@ fn misnamed(alloc: Global, word: &str) -> ParseExit
     }
 }
 
-/// Makes the refusal of the second word that names standard input.
-fn read_again(alloc: Global, word: &str) -> ParseExit
-    ensures { IsRefusal result }
-{
-    match format!(in alloc; "'{word}' is standard input again, which is read once") {
-        Ok(why) => unfit(alloc, &why),
-        Err(AllocError) => ParseExit::Memory,
-    }
-}
-
 /// Reads words, each of which is a valid `[NAME=]REPORT`.
 fn named<'w>(alloc: Global, words: &[&'w str]) -> Result<Vec<NamedReport<'w>>, AllocError>
     ensures { IfOk result (λ reports. map report_model reports.items ≡ map (λ word. named_of word.now) words.now) }
@@ -147,7 +137,10 @@ fn reports_of<'w>(alloc: Global, words: &[&'w str]) -> Result<Vec<NamedReport<'w
         return Err(misnamed(alloc, word));
     }
     if let Some(word) = second_input(words) {
-        return Err(read_again(alloc, word));
+        return match format!(in alloc; "'{word}' is standard input again, which is read once") {
+            Ok(why) => Err(unfit(alloc, &why)),
+            Err(AllocError) => Err(ParseExit::Memory),
+        };
     }
     match named(alloc, words) {
         Ok(reports) => Ok(reports),

@@ -4,7 +4,7 @@ ghost use Rattle.std.specs.Prelude.{◌≡◌, IfErr, IfOk, None, map, string_by
 ghost use Rattle.lc_arguments.specs.CommandLine.{bare_lc_app, lc_app, subcommand_apps};
 ghost use Rattle.lc_arguments.specs.CountArgs.{AreCommandsOf, IsCommandOf};
 ghost use Rattle.lc_arguments.specs.Explained.{Explains, IsRefusal, AnswersOthers};
-ghost use Rattle.lc_arguments.specs.Naming.{IsNamingError, IsTextOf, NamesArguments, named_command};
+ghost use Rattle.lc_arguments.specs.Naming.{IsNamingError, NamesArguments};
 ghost use Rattle.lc_arguments.specs.Refusals.{IsMessage, IsRefusedVisibly};
 ghost use Rattle.lc_arguments.specs.Words.{AnswersWords, count_words};
 
@@ -143,17 +143,6 @@ pub(crate) fn unfit(alloc: Global, why: &str) -> ParseExit
     }
 }
 
-/// Turns an error of clap about arguments that name no command into a `ParseExit`.
-fn explained_others<W: AsStr>(alloc: Global, error: &Error, words: &[W]) -> ParseExit
-    ensures { Explains error.now result }
-{
-    let first = words.first().map_or("", |word| word.as_str());
-    match suggestions::command(alloc, first, words) {
-        Ok(advice) => explained(alloc, error, help::LC.usage, &advice),
-        Err(AllocError) => ParseExit::Memory,
-    }
-}
-
 /// Reads arguments that name no command.
 fn read_others<'w, W: AsStr>(alloc: Global, words: &'w [W]) -> Result<Request<'w>, ParseExit>
     ensures { AnswersOthers (map W.text words.entry.now) result }
@@ -164,7 +153,13 @@ fn read_others<'w, W: AsStr>(alloc: Global, words: &'w [W]) -> Result<Request<'w
     match command.try_get_matches_from(words) {
         // clap accepts no arguments and `--`. `read_words` and `count_words` read both elsewhere.
         Ok(_) => Ok(Request::CheckJoined),
-        Err(error) => Err(explained_others(alloc, &error, words)),
+        Err(error) => {
+            let first = words.first().map_or("", |word| word.as_str());
+            match suggestions::command(alloc, first, words) {
+                Ok(advice) => Err(explained(alloc, &error, help::LC.usage, &advice)),
+                Err(AllocError) => Err(ParseExit::Memory),
+            }
+        }
     }
 }
 
@@ -251,15 +246,6 @@ fn naming_refusal<W: AsStr>(alloc: Global, words: &[W], why: &str) -> Result<Str
     if named { Ok(second) } else { Err(AllocError) }
 }
 
-/// Returns the text of help or of the version, if the text names the arguments or the program that it is about. clap's texts do, but no
-/// contract says so.
-fn naming_text<W: AsStr>(alloc: Global, words: &[W], text: String) -> Result<String, AllocError>
-    ensures { IfOk result (λ text. IsTextOf (named_command (map W.text words.entry.now)) (string_bytes text)) }
-{
-    let named = is_text_of(alloc, &text, words)?;
-    if named { Ok(text) } else { Err(AllocError) }
-}
-
 impl<'w> Request<'w> {
     /// Reads the arguments after the program's name.
     ///
@@ -275,9 +261,10 @@ impl<'w> Request<'w> {
                 Ok(why) => Err(ParseExit::Refused(why)),
                 Err(AllocError) => Err(ParseExit::Memory),
             },
-            Err(ParseExit::Shown(text)) => match naming_text(alloc, words, text) {
-                Ok(text) => Err(ParseExit::Shown(text)),
-                Err(AllocError) => Err(ParseExit::Memory),
+            // clap's texts of help and of the version name what they are about, but no contract says so.
+            Err(ParseExit::Shown(text)) => match is_text_of(alloc, &text, words) {
+                Ok(true) => Err(ParseExit::Shown(text)),
+                _ => Err(ParseExit::Memory),
             },
             Err(ParseExit::Memory) => Err(ParseExit::Memory),
         }

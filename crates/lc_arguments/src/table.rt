@@ -13,7 +13,8 @@ ghost use Rattle.lc_arguments.specs.Explained.{AnswersColumns, AnswersFormat, An
 ghost use Rattle.lc_arguments.specs.TableWords.{IsColumnsText, IsKeyAfter, IsNoKeyAfter, default_order, is_fixed, is_for_reading};
 ghost use Rattle.lc_arguments.specs.TableWords.{is_key_name, max_columns, number_of};
 ghost use Rattle.lc_arguments.specs.Texts.{comma};
-ghost use Rattle.lc_arguments.specs.TableWords.{columns_in, lists_files, names_tree, options_in, order_in, order_word, output_in, output_word};
+ghost use Rattle.lc_arguments.specs.TableWords.{columns_in, lists_files, names_tree, options_in, order_in, order_word, output_in};
+ghost use Rattle.lc_arguments.specs.TableWords.{output_word};
 
 use crate::attributes::{is_named, names_column};
 use crate::numbers::Cuts;
@@ -124,8 +125,8 @@ impl TableRequest {
     }
 
     /// Returns the options of the table. If the request names no format, the format is `Table` if shares are shown, and `other` if not. If
-    /// the request names no columns, the columns are `columns`; a tree is grouped by directories. If the request names no order, rows and files are sorted by lines if
-    /// `--top` is used or the format is `Table` or `Markdown`, and otherwise by name.
+    /// the request names no columns, the columns are `columns`; a tree is grouped by directories. If the request names no order, rows and
+    /// files are sorted by lines if `--top` is used or the format is `Table` or `Markdown`, and otherwise by name.
     pub fn options(self, other: Format, columns: Columns) -> TableOptions
         ensures { result ≡ options_in other columns self }
     {

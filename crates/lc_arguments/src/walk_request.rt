@@ -18,7 +18,7 @@ pub struct WalkRequest<'w> {
     pub threads: u32,
     /// The greatest number of directories in each DIR, DIR included: 1 to [`MAX_DIRS`](crate::MAX_DIRS), by default 65,536.
     pub max_dirs: u32,
-    /// The options that decide, together with the rule files in DIR, which entries are skipped.
+    /// The options, besides those below, that decide, together with the rule files in DIR, which entries are skipped.
     pub filters: FilterRequest<'w>,
     /// The paths of `--only`, relative to DIR, without `./` at the beginning and without a slash at the end. The path `.` means all of DIR.
     /// If this list is empty and `only_from` is `None`, all of DIR is counted.

@@ -1,6 +1,5 @@
 use Rattle.std.proofs.Common.{codes, inl, inr, refl}
 use Rattle.clap.specs.{Matches.found_of, Walk.rows_of}
-use Rattle.lc_arguments.specs.{ReadNumbers.AreCutsIn, Words.{AsksNoTable, AsksNoWalk, Misvalue}}
 use Rattle.lc_arguments.proofs.{WordFaults.{flag_of, text_or}, Misnaming.passed_on}
 use Rattle.lc_arguments.specs.{CommandLine.rules_in, Options.options, declared.option_row.Subcommand.TheVariants.Diff}
 use Rattle.lc_arguments.proofs.CommandRules.{numbers_within}
@@ -8,29 +7,24 @@ use Rattle.lc_arguments.proofs.diff.request_in.Goals as goal
 
 pub returns-in_err-walk : goal.returns-in_err-walk
 returns-in_err-walk c =
-    let rows = rows_of (found_of c.args.matches.now) in
-    passed_on _ (AsksNoWalk rows) _ c.from_residual.result c.in_err-walk.field-0.0 (λ bad are. inl bad)
+    passed_on _ _ _ c.from_residual.result c.in_err-walk.field-0.0 (λ bad are. inl bad)
     c.from_residual.ensures.1 c.in_err-walk.ensures
 
 pub returns-in_err-table : goal.returns-in_err-table
 returns-in_err-table c =
-    let rows = rows_of (found_of c.args.matches.now) in
-    passed_on _ (AreCutsIn rows c.read-numbers.result.cuts
-    → AsksNoTable rows) _ c.from_residual-in_err-table.result c.in_err-table.field-0.0
+    passed_on _ _ _ c.from_residual-in_err-table.result c.in_err-table.field-0.0
     (λ bad are. inr (inl (bad (c.read-numbers.ensures
     (numbers_within (rules_in Diff options) (found_of c.args.matches.now) are refl refl refl refl)).cuts)))
     c.from_residual-in_err-table.ensures.1 c.in_err-table.ensures
 
 pub returns-in_err-attributes : goal.returns-in_err-attributes
 returns-in_err-attributes c =
-    let rows = rows_of (found_of c.args.matches.now) in
-    passed_on _ (Misvalue rows) _ c.from_residual-in_err-attributes.result c.in_err-attributes.field-0.0 (λ bad are. inl (inl bad))
+    passed_on _ _ _ c.from_residual-in_err-attributes.result c.in_err-attributes.field-0.0 (λ bad are. inl (inl bad))
     c.from_residual-in_err-attributes.ensures.1 c.in_err-attributes.ensures
 
 pub returns-in_err-conditions : goal.returns-in_err-conditions
 returns-in_err-conditions c =
-    let rows = rows_of (found_of c.args.matches.now) in
-    passed_on _ (Misvalue rows) _ c.from_residual-in_err-conditions.result c.in_err-conditions.field-0.0 (λ bad are. inl (inl bad))
+    passed_on _ _ _ c.from_residual-in_err-conditions.result c.in_err-conditions.field-0.0 (λ bad are. inl (inl bad))
     c.from_residual-in_err-conditions.ensures.1 c.in_err-conditions.ensures
 
 pub returns : goal.returns

@@ -10,7 +10,7 @@ returns-in-Ok-try_get_matches_from g c = (
   refl,
 )
 
-pub returns : goal.returns
-returns g c =
-    no_request_of c.in-Ok.command lc_app (map g.W.AsStr.text c.args.words.now) c.in-Err.error c.explained_others.result c.in-Ok.ensures.0
-    lc_is_free c.in-Err.ensures.kinds c.explained_others.ensures
+pub returns-in-Ok-command : goal.returns-in-Ok-command
+returns-in-Ok-command g c =
+    no_request_of c.in-Ok.command lc_app (map g.W.AsStr.text c.args.words.now) c.in-Err.error c.explained.result c.in-Ok.ensures.0
+    lc_is_free c.in-Err.ensures.kinds c.explained.ensures

@@ -1,6 +1,5 @@
 use Rattle.std.proofs.Common.{codes, inl, inr, refl}
 use Rattle.clap.specs.{Matches.found_of, Walk.rows_of}
-use Rattle.lc_arguments.specs.{Words.{AsksNoTable, ComparesSides, MisnamesReports, Misvalue}, ReadNumbers.AreCutsIn}
 use Rattle.lc_arguments.proofs.{WordFaults.flag_of, Misnaming.passed_on}
 use Rattle.lc_arguments.specs.{CommandLine.rules_in, Options.options, declared.option_row.Subcommand.TheVariants.Sum}
 use Rattle.lc_arguments.proofs.CommandRules.{cuts_within}
@@ -8,34 +7,29 @@ use Rattle.lc_arguments.proofs.sum.request_in.Goals as goal
 
 pub returns-in_err-table : goal.returns-in_err-table
 returns-in_err-table c =
-    let rows = rows_of (found_of c.args.matches.now) in
-    passed_on _ (AreCutsIn rows c.read-cuts.result → AsksNoTable rows) _ c.from_residual.result c.in_err-table.field-0.0
+    passed_on _ _ _ c.from_residual.result c.in_err-table.field-0.0
     (λ bad are. inr (inr (inl (bad (c.read-cuts.ensures
     (cuts_within (rules_in Sum options) (found_of c.args.matches.now) are refl refl))))))
     c.from_residual.ensures.1 c.in_err-table.ensures
 
 pub returns-in_err-one_sided : goal.returns-in_err-one_sided
 returns-in_err-one_sided c =
-    let rows = rows_of (found_of c.args.matches.now) in
-    passed_on _ (ComparesSides rows) _ c.from_residual-in_err-one_sided.result c.in_err-one_sided.field-0.0
+    passed_on _ _ _ c.from_residual-in_err-one_sided.result c.in_err-one_sided.field-0.0
     (λ two are. inr (inr (inr (inl two)))) c.from_residual-in_err-one_sided.ensures.1 c.in_err-one_sided.ensures
 
 pub returns-in_err-attributes : goal.returns-in_err-attributes
 returns-in_err-attributes c =
-    let rows = rows_of (found_of c.args.matches.now) in
-    passed_on _ (Misvalue rows) _ c.from_residual-in_err-attributes.result c.in_err-attributes.field-0.0 (λ bad are. inl bad)
+    passed_on _ _ _ c.from_residual-in_err-attributes.result c.in_err-attributes.field-0.0 (λ bad are. inl bad)
     c.from_residual-in_err-attributes.ensures.1 c.in_err-attributes.ensures
 
 pub returns-in_err-conditions : goal.returns-in_err-conditions
 returns-in_err-conditions c =
-    let rows = rows_of (found_of c.args.matches.now) in
-    passed_on _ (Misvalue rows) _ c.from_residual-in_err-conditions.result c.in_err-conditions.field-0.0 (λ bad are. inl bad)
+    passed_on _ _ _ c.from_residual-in_err-conditions.result c.in_err-conditions.field-0.0 (λ bad are. inl bad)
     c.from_residual-in_err-conditions.ensures.1 c.in_err-conditions.ensures
 
 pub returns-in_err-reports : goal.returns-in_err-reports
 returns-in_err-reports c =
-    let rows = rows_of (found_of c.args.matches.now) in
-    passed_on _ (MisnamesReports rows) _ c.from_residual-in_err-reports.result c.in_err-reports.field-0.0 (λ bad are. inr (inl bad))
+    passed_on _ _ _ c.from_residual-in_err-reports.result c.in_err-reports.field-0.0 (λ bad are. inr (inl bad))
     c.from_residual-in_err-reports.ensures.1 c.in_err-reports.ensures
 
 pub returns : goal.returns

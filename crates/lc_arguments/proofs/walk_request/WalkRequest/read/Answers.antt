@@ -1,19 +1,16 @@
 use Rattle.std.proofs.Common.{codes, inl, inr, refl}
 use Rattle.clap.specs.{Matches.found_of, Walk.rows_of}
-use Rattle.lc_arguments.specs.Words.{Misplace, Misvalue}
 use Rattle.lc_arguments.proofs.{WordFaults.{flag_of, text_of}, Misnaming.passed_on}
 use Rattle.lc_arguments.proofs.walk_request.WalkRequest.read.Goals as goal
 
 pub returns-in_err-filters : goal.returns-in_err-filters
 returns-in_err-filters c =
-    let rows = rows_of (found_of c.args.matches.now) in
-    passed_on _ (Misvalue rows) _ c.from_residual.result c.in_err-filters.field-0.0 (λ bad. inl bad)
+    passed_on _ _ _ c.from_residual.result c.in_err-filters.field-0.0 (λ bad. inl bad)
     c.from_residual.ensures.1 c.in_err-filters.ensures
 
 pub returns-in_err-only : goal.returns-in_err-only
 returns-in_err-only c =
-    let rows = rows_of (found_of c.args.matches.now) in
-    passed_on _ (Misplace rows) _ c.from_residual-in_err-only.result c.in_err-only.field-0.0 (λ bad. inr bad)
+    passed_on _ _ _ c.from_residual-in_err-only.result c.in_err-only.field-0.0 (λ bad. inr bad)
     c.from_residual-in_err-only.ensures.1 c.in_err-only.ensures
 
 pub returns : goal.returns
