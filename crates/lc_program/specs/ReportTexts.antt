@@ -9,8 +9,8 @@ use Rattle.lc_sheet.specs.declared.table_options.TableOptions.{TableOptions}
 use Rattle.lc_text.specs.declared.lines.PathEnd.{PathEnd}
 use Rattle.lc_walk.specs.declared.report.Report.{Report}
 
--- how a report is shown: its title, which files were chosen, the conditions on its files, the options of the table, the columns of attributes, and what ends
--- each path
+-- how a report is shown: its title, which files were chosen, the conditions on its files, the options of the table, the columns of
+-- attributes, and what ends each path
 pub record Showing : Type 0 where
   pub title : List ℕ
   pub chosen : List ℕ

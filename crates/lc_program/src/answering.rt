@@ -1,7 +1,7 @@
 //! Answers each request.
 
 ghost use Rattle.lc_arguments.specs.Words.{IsWithinLimits};
-ghost use Rattle.lc_program.specs.Requests.{AnswersLanguages, AnswersRequest};
+ghost use Rattle.lc_program.specs.Requests.{AnswersRequest};
 ghost use Rattle.lc_program.specs.Systems.{may_of};
 
 use crate::answered::Answered;
@@ -18,14 +18,6 @@ use lc_io::{Sink, Source, print};
 use lc_languages::LANGUAGES;
 use std::sync::Wait;
 use std::thread::Threads;
-
-/// Prints the list of languages.
-fn print_languages<O: Sink>(out: &mut O) -> Result<Answered, Cause>
-    ensures { AnswersLanguages O.may_take out.old result out.new }
-{
-    print(out, LANGUAGES.as_bytes())?;
-    Ok(Answered::Listed)
-}
 
 /// Answers a request. Which streams are terminals decides how paths are printed and which format a table has.
 pub(crate) fn answer<R: Threads + Wait + Sync + AllocGlobal, Y: System, S: Source, O: Sink>(
@@ -46,7 +38,10 @@ pub(crate) fn answer<R: Threads + Wait + Sync + AllocGlobal, Y: System, S: Sourc
         Request::Check(asked) => check_file(rt.alloc(), system, asked, style, input, out),
         Request::Count(asked) => count(rt, system, asked, terminals.format(), input, out),
         Request::Explain(asked) => explain_asked(rt.alloc(), system, asked, style, input, out),
-        Request::Languages => print_languages(out),
+        Request::Languages => {
+            print(out, LANGUAGES.as_bytes())?;
+            Ok(Answered::Listed)
+        }
         Request::Sum(asked) => sum(rt.alloc(), system, asked, terminals.format(), input, out),
         Request::Diff(asked) => compare(rt, system, asked, terminals.format(), input, out),
     }

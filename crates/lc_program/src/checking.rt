@@ -1,6 +1,6 @@
 //! Answers `lc check`, and `lc` without arguments: checks paths by the rules of a file or of the input.
 
-ghost use Rattle.std.specs.Prelude.{◌≡◌, true, false};
+ghost use Rattle.std.specs.Prelude.{◌≡◌, false};
 ghost use Rattle.lc_program.specs.Requests.{AnswersFile, AnswersJoined};
 ghost use Rattle.lc_program.specs.Styles.{end_for, format_with};
 
@@ -25,41 +25,7 @@ pub(crate) fn path_end(null: bool) -> PathEnd
     }
 }
 
-/// Checks the paths of the input by the rules of a file. The rules are read first.
-fn check_plainly<Y: System, S: Source, O: Sink>(
-    alloc: Global,
-    system: &Y,
-    file: &str,
-    format: PathFormat,
-    input: &mut S,
-    out: &mut O,
-) -> Result<Answered, Cause>
-    ensures { AnswersFile S.may_give O.may_take (Y.holds system.now) format file.entry.now false input.old out.old result input.new
-        out.new }
-{
-    let text = rule_text_of_file(alloc, system, file)?;
-    check(alloc, text.rules(), format, input, out)?;
-    Ok(Answered::Checked)
-}
-
-/// Checks the paths of the input by the rules of a file, and shows the rule that decides each path. The rules are read first.
-fn check_explaining<Y: System, S: Source, O: Sink>(
-    alloc: Global,
-    system: &Y,
-    file: &str,
-    format: PathFormat,
-    input: &mut S,
-    out: &mut O,
-) -> Result<Answered, Cause>
-    ensures { AnswersFile S.may_give O.may_take (Y.holds system.now) format file.entry.now true input.old out.old result input.new
-        out.new }
-{
-    let text = rule_text_of_file(alloc, system, file)?;
-    check_explained(alloc, file.as_bytes(), &text, format, input, out)?;
-    Ok(Answered::Checked)
-}
-
-/// Checks the paths of the input by the rules of the file that a command line names.
+/// Checks the paths of the input by the rules of the file that a command line names. The rules are read first.
 pub(crate) fn check_file<Y: System, S: Source, O: Sink>(
     alloc: Global,
     system: &Y,
@@ -75,11 +41,13 @@ pub(crate) fn check_file<Y: System, S: Source, O: Sink>(
         end: path_end(asked.null),
         style,
     };
+    let text = rule_text_of_file(alloc, system, asked.file)?;
     if asked.explain {
-        check_explaining(alloc, system, asked.file, format, input, out)
-    } else {
-        check_plainly(alloc, system, asked.file, format, input, out)
+        check_explained(alloc, asked.file.as_bytes(), &text, format, input, out)?;
+        return Ok(Answered::Checked);
     }
+    check(alloc, text.rules(), format, input, out)?;
+    Ok(Answered::Checked)
 }
 
 /// Checks paths by rules, and reads both from the input.

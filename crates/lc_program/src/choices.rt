@@ -4,10 +4,9 @@
 ghost use Rattle.std.specs.Prelude.{◌≡◌, ◌++◌, option_map, string_bytes, IfOk, OnOk};
 ghost use Rattle.lc_program.specs.Choices.{AnswersChoices, AnswersMissing, IsMissing, are_reports, choice_line, first_choice};
 ghost use Rattle.lc_program.specs.Choices.{missing_lines};
-ghost use Rattle.lc_program.specs.ReportLines.{IsTold};
 
 use crate::cause::Cause;
-use crate::report_lines::origin_of;
+use crate::report_lines::{cause_with, origin_of};
 use crate::sides::is_directory;
 use crate::system::System;
 use crate::unlisted::unexplained_line;
@@ -67,15 +66,6 @@ fn choice_line(alloc: Global, option: &str, old: &str, new: &str) -> Result<Stri
     Ok(line)
 }
 
-fn choice_cause(alloc: Global, option: &str, old: &str, new: &str) -> Cause
-    ensures { IsTold (choice_line option.now old.now new.now) result }
-{
-    match choice_line(alloc, option, old, new) {
-        Ok(line) => Cause::InReport(line),
-        Err(AllocError) => Cause::Memory,
-    }
-}
-
 /// Returns an error if an option chooses files of a directory, but both sides are reports. The system says whether a side is a directory.
 pub(crate) fn refuse_choices<Y: System>(
     alloc: Global,
@@ -92,7 +82,7 @@ pub(crate) fn refuse_choices<Y: System>(
     if is_directory(alloc, system, old)? || is_directory(alloc, system, new)? {
         return Ok(());
     }
-    Err(choice_cause(alloc, option, old, new))
+    Err(cause_with(choice_line(alloc, option, old, new)))
 }
 
 /// Returns whether the system says that a side does not exist. The side `-` is standard input.
@@ -117,15 +107,6 @@ fn missing_lines(alloc: Global, old: &str) -> Result<String, AllocError>
     Ok(lines)
 }
 
-fn missing_cause(alloc: Global, old: &str) -> Cause
-    ensures { IsTold (missing_lines old.now) result }
-{
-    match missing_lines(alloc, old) {
-        Ok(lines) => Cause::InReport(lines),
-        Err(AllocError) => Cause::Memory,
-    }
-}
-
 /// Returns an error if neither side exists. Their names may be those of commits.
 pub(crate) fn refuse_missing<Y: System>(
     alloc: Global,
@@ -138,5 +119,5 @@ pub(crate) fn refuse_missing<Y: System>(
     if !is_missing(alloc, system, old)? || !is_missing(alloc, system, new)? {
         return Ok(());
     }
-    Err(missing_cause(alloc, old))
+    Err(cause_with(missing_lines(alloc, old)))
 }

@@ -1,7 +1,7 @@
 //! The commands that the program suggests on standard error.
 
-ghost use Rattle.std.specs.Prelude.{◌≡◌, ◌++◌, flat_map, map, string_bytes, IfOk, OnOk};
-ghost use Rattle.lc_program.specs.Commands.{count_of, count_of_file, file_count, is_typed, only_of, or_here};
+ghost use Rattle.std.specs.Prelude.{◌≡◌, ◌++◌, map, string_bytes, IfOk, OnOk};
+ghost use Rattle.lc_program.specs.Commands.{count_of, count_of_file, file_count, is_typed, or_here};
 
 use lc_text::{push_quoted, push_visible};
 use std::alloc::{AllocError, Global};
@@ -19,23 +19,6 @@ pub(crate) fn is_typed(alloc: Global, path: &str) -> Result<bool, AllocError>
     Ok(shown.as_bytes() == path.as_bytes())
 }
 
-fn push_only(text: &mut String, path: &str) -> Result<(), AllocError>
-    ensures { OnOk result (string_bytes text.new ≡ string_bytes text.old ++ only_of path.now) }
-{
-    text.push_str("--only ")?;
-    push_quoted(text, path)?;
-    text.push_str(" ")
-}
-
-fn push_each_only(text: &mut String, paths: &[&str]) -> Result<(), AllocError>
-    ensures { OnOk result (string_bytes text.new ≡ string_bytes text.old ++ flat_map only_of (map (λ path. path.now) paths.now)) }
-{
-    for path in paths {
-        push_only(text, path)?;
-    }
-    Ok(())
-}
-
 /// Appends the command that counts some paths of a directory by the rules of the whole directory.
 pub(crate) fn push_count(
     text: &mut String,
@@ -45,7 +28,11 @@ pub(crate) fn push_count(
     ensures { OnOk result (string_bytes text.new ≡ string_bytes text.old ++ count_of (map (λ path. path.now) paths.now) directory.now) }
 {
     text.push_str("lc count ")?;
-    push_each_only(text, paths)?;
+    for path in paths {
+        text.push_str("--only ")?;
+        push_quoted(text, path)?;
+        text.push_str(" ")?;
+    }
     push_quoted(text, directory)
 }
 

@@ -1,25 +1,22 @@
 //! Answers `lc diff`: compares two directories or reports, and prints the changes.
 
-ghost use Rattle.std.specs.Prelude.{◌≡◌, string_bytes, true, IfOk};
+ghost use Rattle.std.specs.Prelude.{◌≡◌, true, IfOk};
 ghost use Rattle.lc_arguments.specs.TableWords.{number_of};
 ghost use Rattle.lc_arguments.specs.Words.{IsDiffWithinLimits};
 ghost use Rattle.lc_changes.specs.ChangeSheets.{HasFilesFor};
 ghost use Rattle.lc_program.specs.Differences.{AnswersChanges, AnswersDiff, AnswersSides, IsChangesText, PrintsChanges, PrintsSides};
 ghost use Rattle.lc_program.specs.Differences.{change_options, change_order, compared_columns, compared_lists, compared_needs};
-ghost use Rattle.lc_program.specs.Replies.{IsReplyWith};
 ghost use Rattle.lc_program.specs.Systems.{may_of};
 ghost use Rattle.lc_program.specs.declared.answered.Answered.TheVariants.{Compared};
-ghost use Rattle.lc_level.specs.NamedAttributes.{noted};
 
 use crate::answered::{Answered, Remarks};
-use crate::attributes::{columns_of, named_attributes};
+use crate::attributes::columns_of;
 use crate::cause::Cause;
-use crate::checking::path_end;
 use crate::choices::{refuse_choices, refuse_missing};
 use crate::comparison::Comparison;
-use crate::counting::options_of;
-use crate::filters::{narrowed, read_filters};
-use crate::path_list::{emptied_line, list_of, wanted_paths};
+use crate::counting::{options_of, prepared};
+use crate::filters::narrowed;
+use crate::path_list::{emptied_line, wanted_paths};
 use crate::sides::{SideOptions, both_sides};
 use crate::system::System;
 use crate::unnamed::unnamed_lines;
@@ -27,7 +24,6 @@ use lc_arguments::{DiffRequest, TableRequest};
 use lc_changes::{ChangeOptions, ShownChanges, keep_changes};
 use lc_formats::text;
 use lc_io::{PrintFault, Sink, Source, print};
-use lc_level::NamedAttributes;
 use lc_reports::Needs;
 use lc_rows::keep;
 use lc_sheet::{AttributeColumn, Columns, Format, Number, Order, Output};
@@ -179,24 +175,6 @@ fn print_sides<O: Sink>(
     }
 }
 
-/// Makes the reply to a comparison, with the lines about options that standard error gets.
-fn replied(
-    alloc: Global,
-    emptied: String,
-    named: &NamedAttributes,
-    compared: Result<Comparison, Cause>,
-) -> Result<Answered, Cause>
-    ensures { IsReplyWith Compared (string_bytes emptied) (noted named.now) compared result }
-{
-    match compared {
-        Ok(compared) => {
-            let unnamed = unnamed_lines(alloc, named);
-            Ok(Answered::Compared(compared, Remarks { emptied, unnamed }))
-        }
-        Err(cause) => Err(cause),
-    }
-}
-
 /// Counts or reads both sides of a comparison, and prints the changes from one side to the other.
 fn compare_sides<R: Threads + Wait + Sync + AllocGlobal, Y: System, S: Source, O: Sink>(
     rt: &R,
@@ -211,24 +189,17 @@ fn compare_sides<R: Threads + Wait + Sync + AllocGlobal, Y: System, S: Source, O
         S.may_give O.may_take format asked.now input.old out.old result input.new out.new }
 {
     let columns = columns_of(rt.alloc(), &asked.attributes)?;
-    let named = named_attributes(rt.alloc(), &asked.walk, &asked.attributes)?;
-    // Borrowed before the list is, so that the options' references end together.
-    let noted = &named;
-    let filters = read_filters(
+    let (named, filters, list) = prepared(
         rt.alloc(),
         system,
-        &asked.walk.filters,
+        &asked.walk,
         &asked.attributes,
-        Some(noted),
+        input,
     )?;
-    let list = list_of(rt.alloc(), system, asked.walk.only_from, input)?;
-    let listed = list.as_slice();
-    let only = asked.walk.only.as_slice();
-    let end = path_end(asked.walk.null);
-    let wanted = wanted_paths(rt.alloc(), only, asked.walk.only_from, end, listed)?;
+    let wanted = wanted_paths(rt.alloc(), &asked.walk, &list)?;
     let emptied = emptied_line(rt.alloc(), asked.walk.only_from, &wanted)?;
     let filters = narrowed(rt.alloc(), filters, &wanted)?;
-    let options = options_of(&asked.walk, compared_lists(asked), &filters, noted);
+    let options = options_of(&asked.walk, compared_lists(asked), &filters, &named);
     let how = SideOptions {
         walk: &asked.walk,
         options: &options,
@@ -236,8 +207,13 @@ fn compare_sides<R: Threads + Wait + Sync + AllocGlobal, Y: System, S: Source, O
         needs: compared_needs(asked),
     };
     let sides = both_sides(rt, system, (asked.old, asked.new), how, input);
-    let compared = print_sides(rt.alloc(), asked, sides, format, out);
-    replied(rt.alloc(), emptied, noted, compared)
+    match print_sides(rt.alloc(), asked, sides, format, out) {
+        Ok(compared) => {
+            let unnamed = unnamed_lines(rt.alloc(), &named);
+            Ok(Answered::Compared(compared, Remarks { emptied, unnamed }))
+        }
+        Err(cause) => Err(cause),
+    }
 }
 
 /// Compares two directories or reports, and prints the changes. `format` is the format of the output if the command line names none.

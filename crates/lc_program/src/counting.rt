@@ -1,14 +1,15 @@
 //! Answers `lc count`: counts directories, and prints the table.
 
-ghost use Rattle.std.specs.Prelude.{◌≡◌, string_bytes};
+ghost use Rattle.std.specs.Prelude.{◌≡◌, map, IfErr, IfOk, Ok};
 ghost use Rattle.lc_arguments.specs.Words.{IsCountWithinLimits};
 ghost use Rattle.lc_arguments.specs.TableWords.{options_in};
 ghost use Rattle.lc_program.specs.Counts.{AnswersApart, AnswersCount, Prints, lists_of};
-ghost use Rattle.lc_program.specs.Replies.{IsReplyWith};
+ghost use Rattle.lc_program.specs.Filters.{AnswersFilters};
+ghost use Rattle.lc_program.specs.PathLists.{GivesList};
 ghost use Rattle.lc_program.specs.Systems.{may_of};
-ghost use Rattle.lc_program.specs.WalkRequests.{IsAskedBy};
-ghost use Rattle.lc_program.specs.declared.answered.Answered.TheVariants.{Counted};
+ghost use Rattle.lc_program.specs.WalkRequests.{IsAskedBy, IsUnprepared, named_in};
 ghost use Rattle.lc_level.specs.NamedAttributes.{noted};
+ghost use Rattle.lc_sheet.specs.AttributeColumns.{attribute_of};
 ghost use Rattle.lc_walk.specs.AllColumns.{all_columns};
 ghost use Rattle.lc_rows.specs.WalkedReports.{ListsFilesFor};
 ghost use Rattle.lc_walk.specs.WalkOptions.{AreWithinLimits};
@@ -51,6 +52,29 @@ fn lists_of(asked: &CountRequest<'_>) -> ReportLists
             || needs_files(&asked.conditions),
         left_out: asked.left_out,
     }
+}
+
+/// Reads what a walk is prepared with: the list of the attributes that the command line names, the filters without the paths to count, and
+/// the list of paths. Notes which attributes the file of `--attributes-from` names.
+pub(crate) fn prepared<'w, 'p, Y: System, S: Source>(
+    alloc: Global,
+    system: &Y,
+    walk: &WalkRequest<'w>,
+    attributes: &[&'w str],
+    input: &mut S,
+) -> Result<(NamedAttributes, Filters<'p>, Vec<u8>), Cause>
+    ensures named { IfOk result (λ made. noted made.0 ≡ named_in walk.now attributes.now) }
+    ensures filters { IfOk result (λ made. AnswersFilters (Y.holds system.now) (Y.unreads system.now) walk.now.filters
+        (map (λ column. attribute_of column.now) attributes.now) (Ok made.1)) }
+    ensures list { IfOk result (λ made. GivesList S.may_give (Y.holds system.now) (Y.unreads system.now) walk.now.only_from
+        input.old (Ok made.2) input.new) }
+    ensures unprepared { IfErr result (λ cause. IsUnprepared (may_of Y.Tree.Tree Y.System system.now)
+        S.may_give walk.now input.old cause input.new) }
+{
+    let named = named_attributes(alloc, walk, attributes)?;
+    let filters = read_filters(alloc, system, &walk.filters, attributes, Some(&named))?;
+    let list = list_of(alloc, system, walk.only_from, input)?;
+    Ok((named, filters, list))
 }
 
 /// Makes the options of a walk from the command line.
@@ -100,24 +124,6 @@ fn print_found<R: Threads + Wait + Sync + AllocGlobal, Y: System, O: Sink>(
     Ok(Printed { report, refused })
 }
 
-/// Makes the reply to a count, with the lines about options that standard error gets.
-fn replied(
-    alloc: Global,
-    emptied: String,
-    named: &NamedAttributes,
-    counted: Result<Printed, Cause>,
-) -> Result<Answered, Cause>
-    ensures { IsReplyWith Counted (string_bytes emptied) (noted named.now) counted result }
-{
-    match counted {
-        Ok(printed) => {
-            let unnamed = unnamed_lines(alloc, named);
-            Ok(Answered::Counted(printed, Remarks { emptied, unnamed }))
-        }
-        Err(cause) => Err(cause),
-    }
-}
-
 /// Counts directories, none of which lies in another, and prints the table.
 fn count_apart<R: Threads + Wait + Sync + AllocGlobal, Y: System, S: Source, O: Sink>(
     rt: &R,
@@ -131,26 +137,24 @@ fn count_apart<R: Threads + Wait + Sync + AllocGlobal, Y: System, S: Source, O: 
     ensures { AnswersApart (may_of Y.Tree.Tree Y.System system.now)
         S.may_give O.may_take format asked.now input.old out.old result input.new out.new }
 {
-    let named = named_attributes(rt.alloc(), &asked.walk, &asked.attributes)?;
-    // Borrowed before the list is, so that the options' references end together.
-    let noted = &named;
-    let filters = read_filters(
+    let (named, filters, list) = prepared(
         rt.alloc(),
         system,
-        &asked.walk.filters,
+        &asked.walk,
         &asked.attributes,
-        Some(noted),
+        input,
     )?;
-    let list = list_of(rt.alloc(), system, asked.walk.only_from, input)?;
-    let listed = list.as_slice();
-    let only = asked.walk.only.as_slice();
-    let end = path_end(asked.walk.null);
-    let wanted = wanted_paths(rt.alloc(), only, asked.walk.only_from, end, listed)?;
+    let wanted = wanted_paths(rt.alloc(), &asked.walk, &list)?;
     let emptied = emptied_line(rt.alloc(), asked.walk.only_from, &wanted)?;
     let filters = narrowed(rt.alloc(), filters, &wanted)?;
-    let options = options_of(&asked.walk, lists_of(asked), &filters, noted);
-    let counted = print_found(rt, system, asked, &options, format, out);
-    replied(rt.alloc(), emptied, noted, counted)
+    let options = options_of(&asked.walk, lists_of(asked), &filters, &named);
+    match print_found(rt, system, asked, &options, format, out) {
+        Ok(printed) => {
+            let unnamed = unnamed_lines(rt.alloc(), &named);
+            Ok(Answered::Counted(printed, Remarks { emptied, unnamed }))
+        }
+        Err(cause) => Err(cause),
+    }
 }
 
 /// Counts directories and prints the table. `format` is the format of the table if the command line names none.

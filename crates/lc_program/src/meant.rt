@@ -74,8 +74,8 @@ fn meant_lines(alloc: Global, patterns: &[&str]) -> Result<String, AllocError>
     Ok(text)
 }
 
-/// Writes the lines about the patterns of `--include` of a count that has no file. If there is no memory for them, nothing is written, since
-/// nothing depends on them.
+/// Writes the lines about the patterns of `--include` of a count that has no file. If there is no memory for them, nothing is written,
+/// since nothing depends on them.
 pub(crate) fn tell_meant<E: Sink>(
     alloc: Global,
     request: &Request<'_>,

@@ -5,33 +5,21 @@ ghost use Rattle.std.specs.Borrow.{Bor};
 ghost use Rattle.std.specs.List.{list_any};
 ghost use Rattle.lc_text.specs.PathLines.{is_top};
 ghost use Rattle.lc_program.specs.Causes.{bad_path_line, no_path_line};
-ghost use Rattle.lc_program.specs.PathLists.{AnswersList, AnswersListed, AnswersNamed, AnswersWanted, GivesList, IsListCause};
+ghost use Rattle.lc_program.specs.PathLists.{AnswersListed, AnswersNamed, AnswersWanted, GivesList, IsListCause};
 ghost use Rattle.lc_program.specs.PathLists.{emptied_line, is_bad_listed, paths_wanted};
+ghost use Rattle.lc_program.specs.Styles.{end_for};
 
 use crate::cause::Cause;
+use crate::checking::path_end;
 use crate::named_texts::named_text;
 use crate::system::System;
+use lc_arguments::WalkRequest;
 use lc_io::{Source, WholeFault};
 use lc_text::{PathEnd, is_bad_path, is_top, push_visible, split_path, split_slash, undotted};
 use std::alloc::{AllocError, Global};
 
 /// The greatest number of bytes of a list of paths.
 const MAX_LIST: u32 = 268_435_456;
-
-/// Reads the list of paths that a command line names: the list in a file, or in the input for `-`.
-fn named_list<Y: System, S: Source>(
-    alloc: Global,
-    system: &Y,
-    file: Option<&str>,
-    input: &mut S,
-) -> Result<Vec<u8>, WholeFault>
-    ensures { AnswersList S.may_give (Y.holds system.now) file.entry input.old result input.new }
-{
-    match file {
-        None => Ok(Vec::new(alloc)),
-        Some(name) => named_text(alloc, system, MAX_LIST, name, input),
-    }
-}
 
 /// Returns why the list of paths that a command line names could not be read.
 fn list_cause<Y: System>(alloc: Global, system: &Y, file: Option<&str>, fault: WholeFault) -> Cause
@@ -47,7 +35,7 @@ fn list_cause<Y: System>(alloc: Global, system: &Y, file: Option<&str>, fault: W
     }
 }
 
-/// Reads the list of paths that a command line names, or returns why it could not be read.
+/// Reads the list of paths that a command line names, in a file or in the input for `-`, or returns why it could not be read.
 pub(crate) fn list_of<Y: System, S: Source>(
     alloc: Global,
     system: &Y,
@@ -56,7 +44,10 @@ pub(crate) fn list_of<Y: System, S: Source>(
 ) -> Result<Vec<u8>, Cause>
     ensures { GivesList S.may_give (Y.holds system.now) (Y.unreads system.now) file.entry input.old result input.new }
 {
-    match named_list(alloc, system, file, input) {
+    let Some(name) = file else {
+        return Ok(Vec::new(alloc));
+    };
+    match named_text(alloc, system, MAX_LIST, name, input) {
         Ok(list) => Ok(list),
         Err(fault) => Err(list_cause(alloc, system, file, fault)),
     }
@@ -145,17 +136,16 @@ fn has_top(paths: &[&[u8]]) -> bool
 /// directory, if the command line names neither, or if one of the paths is the counted directory itself.
 pub(crate) fn wanted_paths<'w: 'l, 'l>(
     alloc: Global,
-    only: &[&'w [u8]],
-    file: Option<&str>,
-    end: PathEnd,
+    walk: &WalkRequest<'w>,
     list: &'l [u8],
 ) -> Result<Option<Vec<&'l [u8]>>, Cause>
-    ensures { AnswersWanted (map (λ path. path.now) only.now) file.entry end list.now result }
+    ensures { AnswersWanted (map (λ path. path.now) walk.now.only.items) walk.now.only_from (end_for walk.now.null) list.now result }
 {
-    if only.is_empty() && file.is_none() {
+    if walk.only.is_empty() && walk.only_from.is_none() {
         return Ok(None);
     }
-    let paths = named_paths(alloc, only, file, end, list)?;
+    let end = path_end(walk.null);
+    let paths = named_paths(alloc, &walk.only, walk.only_from, end, list)?;
     if has_top(&paths) {
         return Ok(None);
     }

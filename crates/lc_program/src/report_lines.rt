@@ -1,6 +1,6 @@
 //! The lines on standard error about reports that can't be read or added up.
 
-ghost use Rattle.std.specs.Prelude.{◌≡◌, ◌++◌, [], codes, string_bytes, IfOk};
+ghost use Rattle.std.specs.Prelude.{◌≡◌, ◌++◌, ℕ, List, [], codes, string_bytes, IfOk};
 ghost use Rattle.lc_sheet.specs.Keys.{key_name};
 ghost use Rattle.lc_program.specs.ReportLines.{IsRefusedFor, IsTold, IsUnreadFor, IsUnsummedFor, MayBeWhy};
 ghost use Rattle.lc_program.specs.ReportLines.{no_attribute_text, no_report_text, origin_of};
@@ -41,12 +41,29 @@ fn report_line(alloc: Global, name: &[u8], why: &str) -> Result<String, AllocErr
     Ok(line)
 }
 
+/// Makes the cause with this line, if there was memory for the line.
+pub(crate) fn cause_with(line: Result<String, AllocError>) -> Cause
+    ensures { (text : List ℕ) → IfOk line (λ made. string_bytes made ≡ text) → IsTold text result }
+{
+    match line {
+        Ok(line) => Cause::InReport(line),
+        Err(AllocError) => Cause::Memory,
+    }
+}
+
 /// Makes the cause whose line says what is wrong with a report, or with a path that several reports have.
 fn report_cause(alloc: Global, name: &[u8], why: &str) -> Cause
     ensures { IsTold (report_line name.now why.now) result }
 {
-    match report_line(alloc, name, why) {
-        Ok(line) => Cause::InReport(line),
+    cause_with(report_line(alloc, name, why))
+}
+
+/// Like `report_cause`, if there was memory for the text that says what is wrong.
+fn cause_by(alloc: Global, name: &[u8], why: Result<String, AllocError>) -> Cause
+    ensures { (text : List ℕ) → IfOk why (λ made. string_bytes made ≡ text) → IsTold (report_line name.now text) result }
+{
+    match why {
+        Ok(why) => report_cause(alloc, name, &why),
         Err(AllocError) => Cause::Memory,
     }
 }
@@ -65,10 +82,7 @@ fn reason_for<Y: System>(alloc: Global, system: &Y, report: &str) -> Option<Unre
 pub(crate) fn unread_cause(alloc: Global, name: &str, reason: Option<UnreadReason>) -> Cause
     ensures { IsTold (unexplained_line name.now reason) result }
 {
-    match unexplained_line(alloc, name, reason) {
-        Ok(line) => Cause::InReport(line),
-        Err(AllocError) => Cause::Memory,
-    }
+    cause_with(unexplained_line(alloc, name, reason))
 }
 
 /// Makes the cause that says why the text of a report could not be read.
@@ -136,24 +150,7 @@ fn refusal_text(
     ensures { IfOk result (λ text. string_bytes text ≡ codes "is no report: " ++ no_report_text attributes.now why) }
 {
     let why = no_report_text(alloc, attributes, why)?;
-    let mut text = String::from_str(alloc, "is no report: ")?;
-    text.push_str(&why)?;
-    Ok(text)
-}
-
-/// Makes the cause whose line says why a file or the input is no report.
-fn no_report_cause(
-    alloc: Global,
-    attributes: &[AttributeColumn],
-    name: &[u8],
-    why: NoReport,
-) -> Cause
-    ensures { IsTold (report_line name.now (codes "is no report: " ++ no_report_text attributes.now why)) result }
-{
-    match refusal_text(alloc, attributes, why) {
-        Ok(text) => report_cause(alloc, name, &text),
-        Err(AllocError) => Cause::Memory,
-    }
+    format!(in alloc; "is no report: {why}")
 }
 
 /// Makes the text that says that a report has no states of an attribute. The text follows the name of the report.
@@ -165,16 +162,6 @@ fn no_attribute_text(alloc: Global, name: &str) -> Result<String, AllocError>
     text.push_str(": count with --files --by ")?;
     text.push_str(name)?;
     Ok(text)
-}
-
-/// Makes the cause whose line says that a report has no states of an attribute.
-fn no_attribute_cause(alloc: Global, name: &[u8], attribute: &str) -> Cause
-    ensures { IsTold (report_line name.now (no_attribute_text attribute.now)) result }
-{
-    match no_attribute_text(alloc, attribute) {
-        Ok(text) => report_cause(alloc, name, &text),
-        Err(AllocError) => Cause::Memory,
-    }
 }
 
 /// Makes the cause that says why the text of a report is refused. `name` is the name that errors use for the report. The columns of the
@@ -189,11 +176,12 @@ pub(crate) fn cause_of_refusal(
 {
     match fault {
         ReadFault::Memory => Cause::Memory,
-        ReadFault::NoReport(why) => no_report_cause(alloc, attributes, name, why),
+        ReadFault::NoReport(why) => cause_by(alloc, name, refusal_text(alloc, attributes, why)),
         ReadFault::CutByTop => report_cause(alloc, name, "was cut by --top"),
         ReadFault::DoNotAddUp(part) => report_cause(alloc, name, sums_text(part)),
         ReadFault::NoAttribute(place) => {
-            no_attribute_cause(alloc, name, Key::Attribute(place).name(attributes))
+            let attribute = Key::Attribute(place).name(attributes);
+            cause_by(alloc, name, no_attribute_text(alloc, attribute))
         }
     }
 }
@@ -202,20 +190,8 @@ pub(crate) fn cause_of_refusal(
 fn no_column_text(alloc: Global, key: Key) -> Result<String, AllocError>
     ensures { IfOk result (λ text. string_bytes text ≡ codes "has no column " ++ key_name [] key ++ codes ": count with --files") }
 {
-    let mut text = String::from_str(alloc, "has no column ")?;
-    text.push_str(key.name(&[]))?;
-    text.push_str(": count with --files")?;
-    Ok(text)
-}
-
-/// Makes the cause whose line says that a report lacks a column.
-fn no_column_cause(alloc: Global, name: &[u8], key: Key) -> Cause
-    ensures { IsTold (report_line name.now (codes "has no column " ++ key_name [] key ++ codes ": count with --files")) result }
-{
-    match no_column_text(alloc, key) {
-        Ok(text) => report_cause(alloc, name, &text),
-        Err(AllocError) => Cause::Memory,
-    }
+    let name = key.name(&[]);
+    format!(in alloc; "has no column {name}: count with --files")
 }
 
 /// Makes the cause that says why reports have no sum.
@@ -224,7 +200,9 @@ pub(crate) fn cause_of_sum(alloc: Global, fault: SumFault<'_>) -> Cause
 {
     match fault {
         SumFault::Memory => Cause::Memory,
-        SumFault::NoColumn(name, key) => no_column_cause(alloc, name.as_bytes(), key),
+        SumFault::NoColumn(name, key) => {
+            cause_by(alloc, name.as_bytes(), no_column_text(alloc, key))
+        }
         SumFault::NoSharedColumn => Cause::NoSharedColumn,
         SumFault::NoFiles(name) => {
             report_cause(alloc, name.as_bytes(), "has no files: count with --files")

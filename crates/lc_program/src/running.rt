@@ -1,7 +1,8 @@
-//! Runs the program: carries out the request of the arguments with the directories and files of a `System`, and writes to the streams.
+//! Runs the program: carries out the request of the arguments with the directories and files of a `System`. Reads the input stream, and
+//! writes to the other two.
 
 ghost use Rattle.std.specs.Prelude.{◌≡◌, ◌&&◌, map, nat_lt};
-ghost use Rattle.lc_program.specs.Program.{Advises, Comments, Ends, EndsTyped, TellsRefused, TellsUnread, status_of, streams_may};
+ghost use Rattle.lc_program.specs.Program.{Comments, Ends, EndsTyped, TellsRefused, TellsUnread, status_of, streams_may};
 ghost use Rattle.lc_program.specs.Replies.{ending_of, has_failure};
 ghost use Rattle.lc_program.specs.Systems.{may_of};
 ghost use Rattle.lc_program.specs.declared.ending.Ending.{Ending};
@@ -86,7 +87,8 @@ fn tell_refused<E: Sink>(answered: &Answered, err: &mut E)
     }
 }
 
-/// Writes to standard error what could not be read, which paths the text lacks, and what there is to say of the options.
+/// Writes to standard error what could not be read, which paths the text lacks, and which options had no effect, but for
+/// patterns that can match nothing.
 fn comment<Y: System, E: Sink>(
     alloc: Global,
     system: &Y,
@@ -142,21 +144,6 @@ fn ending_of(request: &Request<'_>, answered: &Answered) -> Ending
     }
 }
 
-/// Writes the lines about patterns that can match nothing, and the hint about rules in the directories above a counted directory.
-fn advise<Y: System, E: Sink>(
-    alloc: Global,
-    system: &Y,
-    request: &Request<'_>,
-    lines: &str,
-    stderr_is_terminal: bool,
-    err: &mut E,
-)
-    ensures { Advises E.may_take (Y.lies system.now) stderr_is_terminal request.now lines.now err.old err.new }
-{
-    tell(lines, err);
-    hint(alloc, system, request, stderr_is_terminal, err);
-}
-
 /// Runs the program with the arguments that it reads, and returns how it ended.
 fn end_of<R: Threads + Wait + Sync + AllocGlobal, Y: System, W: AsStr, S: Source, O: Sink, E: Sink>(
     rt: &R,
@@ -184,39 +171,15 @@ fn end_of<R: Threads + Wait + Sync + AllocGlobal, Y: System, W: AsStr, S: Source
         Err(cause) => return give_up(rt.alloc(), cause, err),
     };
     comment(rt.alloc(), system, &request, &answered, terminals, err);
-    advise(
-        rt.alloc(),
-        system,
-        &request,
-        &unmatched,
-        terminals.error,
-        err,
-    );
+    tell(&unmatched, err);
+    hint(rt.alloc(), system, &request, terminals.error, err);
     ending_of(&request, &answered)
-}
-
-/// Runs the program with the arguments that were typed, and returns how it ended.
-fn end_of_typed<
-    R: Threads + Wait + Sync + AllocGlobal,
-    Y: System,
-    W: AsStr,
-    S: Source,
-    O: Sink,
-    E: Sink,
->(rt: &R, system: &Y, typed: &[W], terminals: Terminals, streams: &mut Streams<S, O, E>) -> Ending
-    ensures { EndsTyped (may_of Y.Tree.Tree Y.System system.now)
-        (streams_may S.may_give O.may_take E.may_take) (map W.text typed.now) terminals streams.old result streams.new }
-{
-    match read_as(rt.alloc(), system, typed) {
-        Ok(words) => end_of(rt, system, &words, terminals, streams),
-        Err(AllocError) => give_up(rt.alloc(), Cause::Memory, &mut streams.err),
-    }
 }
 
 /// Runs the program with the arguments `typed`, and returns the exit status. The status is 0 for success, and 1 if the answer was written
 /// but some paths could not be read or printed. The status is 2 for refused arguments, and 3 if the program stopped with an error, which
-/// `err` shows. The status is 4, instead of 0 or 1, if `--fail-if-any` is used, and a counted file meets the conditions of `--where` or the sides
-/// of a comparison differ.
+/// `err` shows. The status is 4, instead of 0 or 1, if `--fail-if-any` is used, and a counted file meets the conditions of `--where` or the
+/// sides of a comparison differ.
 ///
 /// The arguments decide what the program does:
 ///
@@ -234,8 +197,8 @@ fn end_of_typed<
 /// If the program reads standard input from a terminal, a line on `err` first says what the program reads. If standard output is a
 /// terminal, checks and explanations escape paths and patterns that a terminal would not show safely. A table is printed in columns on a
 /// terminal if no format is named. If standard error is a terminal, a hint may follow the table of a count. `err` also gets lines about
-/// paths that could not be read or printed, the reason why a directory could not be read, a line about a list without paths, and lines about
-/// patterns of the arguments that can match nothing or may mean something else.
+/// paths that could not be read or printed, the reason why a directory could not be read, a line about a list without paths, and lines
+/// about patterns of the arguments that can match nothing or may mean something else.
 pub fn program<
     R: Threads + Wait + Sync + AllocGlobal,
     Y: System,
@@ -248,5 +211,8 @@ pub fn program<
         × EndsTyped (may_of Y.Tree.Tree Y.System system.now)
         (streams_may S.may_give O.may_take E.may_take) (map W.text typed.now) terminals streams.old ending streams.new }
 {
-    end_of_typed(rt, system, typed, terminals, streams).status()
+    match read_as(rt.alloc(), system, typed) {
+        Ok(words) => end_of(rt, system, &words, terminals, streams).status(),
+        Err(AllocError) => give_up(rt.alloc(), Cause::Memory, &mut streams.err).status(),
+    }
 }

@@ -2,7 +2,7 @@
 
 ghost use Rattle.std.specs.Prelude.{◌≡◌, ◌++◌, string_bytes, IfOk, OnOk};
 ghost use Rattle.lc_program.specs.ReportLines.{origin_of};
-ghost use Rattle.lc_program.specs.SideFaults.{TellsSideFaults, fault_line, have_no_faults, side_line, side_lines, side_path};
+ghost use Rattle.lc_program.specs.SideFaults.{TellsSideFaults, fault_line, have_no_faults, side_lines};
 
 use crate::faults::or_here;
 use crate::report_lines::origin_of;
@@ -21,28 +21,15 @@ pub(crate) struct SideFaults<'f> {
     pub(crate) faults: &'f [FaultLine],
 }
 
-fn push_side_path(text: &mut String, path: &[u8]) -> Result<(), AllocError>
-    ensures { OnOk result (string_bytes text.new ≡ string_bytes text.old ++ side_path path.now) }
-{
-    text.push_str(": cannot read ")?;
-    push_visible(text, path)?;
-    text.push_str("\n")?;
-    Ok(())
-}
-
-fn push_side_line(text: &mut String, name: &str, path: &[u8]) -> Result<(), AllocError>
-    ensures { OnOk result (string_bytes text.new ≡ string_bytes text.old ++ side_line name.now path.now) }
-{
-    text.push_str("lc: ")?;
-    push_visible(text, name.as_bytes())?;
-    push_side_path(text, path)?;
-    Ok(())
-}
-
 fn push_fault(text: &mut String, name: &str, fault: &FaultLine) -> Result<(), AllocError>
     ensures { OnOk result (string_bytes text.new ≡ string_bytes text.old ++ fault_line name.now fault.now) }
 {
-    push_side_line(text, name, or_here(&fault.path))
+    text.push_str("lc: ")?;
+    push_visible(text, name.as_bytes())?;
+    text.push_str(": cannot read ")?;
+    push_visible(text, or_here(&fault.path))?;
+    text.push_str("\n")?;
+    Ok(())
 }
 
 /// Makes a line for each path of a side that could not be read.
@@ -86,7 +73,7 @@ pub(crate) fn tell_side_faults<E: Sink>(
         return;
     }
     match lines_of(alloc, old, new) {
-        // The exit status shows the errors too, so a line that can't be written changes nothing.
+        // Nothing depends on the lines, so a line that can't be written changes nothing.
         Ok(text) => {
             let _ = print(err, text.as_bytes());
         }

@@ -1,7 +1,7 @@
 use Rattle.lc_program.proofs.report_lines.cause_of_sum.Goals as goal
 
 pub returns-in-NoColumn : goal.returns-in-NoColumn
-returns-in-NoColumn c = rw c.in-NoColumn.is (rw c.as_bytes.ensures.value at c.no_column_cause.ensures)
+returns-in-NoColumn c = rw c.in-NoColumn.is (rw c.as_bytes.ensures.value at (c.cause_by.ensures _ c.no_column_text.ensures))
 
 pub returns-in-NoFiles : goal.returns-in-NoFiles
 returns-in-NoFiles c = rw c.in-NoFiles.is (rw c.as_bytes-in-NoFiles.ensures.value at c.report_cause.ensures)

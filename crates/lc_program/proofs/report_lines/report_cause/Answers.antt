@@ -1,5 +1,4 @@
-use Rattle.std.proofs.Common.{inl, refl}
 use Rattle.lc_program.proofs.report_lines.report_cause.Goals as goal
 
-pub returns-in-Ok : goal.returns-in-Ok
-returns-in-Ok c = inl (c.in-Ok.line, c.in-Ok.ensures, refl)
+pub returns : goal.returns
+returns c = c.cause_with.ensures _ c.report_line.ensures

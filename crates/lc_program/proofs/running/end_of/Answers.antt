@@ -1,6 +1,6 @@
 use Rattle.std.proofs.Common.{◌∙◌, ℕ, List, inl, inr, map, refl, string_bytes, subst, sym}
 use Rattle.lc_arguments.specs.{Naming.{IsNamingError, IsTextOf, named_command}, Refusals.IsMessage}
-use Rattle.lc_program.specs.Program.{Advises}
+use Rattle.lc_program.specs.Tellings.{Tells}
 use Rattle.lc_program.proofs.Endings.{ends_answered, ends_shown}
 use Rattle.lc_program.proofs.running.end_of.Goals as goal
 
@@ -74,10 +74,11 @@ returns g c =
       (
         c.comment.new.err,
         c.comment.ensures,
-        subst
-            (λ (lines : List ℕ). Advises g.E.Sink.may_take (g.Y.System.lies c.args.system.now) c.args.terminals.error c.in-Ok.request lines
-            c.comment.new.err c.advise.new.err)
-            (c.deref-2.ensures ∙ c.in-Ok-unmatched_in.ensures)
-            c.advise.ensures,
+        (
+          c.tell.new.err,
+          subst (λ (lines : List ℕ). Tells g.E.Sink.may_take c.comment.new.err lines c.tell.new.err)
+              (c.deref-2.ensures ∙ c.in-Ok-unmatched_in.ensures) c.tell.ensures,
+          c.hint.ensures,
+        ),
       ),
     ))

@@ -1,8 +1,0 @@
-use Rattle.std.proofs.Common.{◌∙◌, ℕ, List, subst}
-use Rattle.lc_program.specs.ReportLines.{IsTold, report_line}
-use Rattle.lc_program.proofs.report_lines.no_report_cause.Goals as goal
-
-pub returns-in-Ok : goal.returns-in-Ok
-returns-in-Ok c =
-    subst (λ (why : List ℕ). IsTold (report_line c.args.name.now why) c.report_cause.result) (c.deref.ensures ∙ c.in-Ok.ensures)
-    c.report_cause.ensures
