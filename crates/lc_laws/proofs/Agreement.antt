@@ -1,16 +1,16 @@
 -- The report of a count agrees with what is said of each path.
-use Rattle.std.proofs.Common.{◌≡◌, ℕ, ◌+◌, ◌≤◌, true, false, cond, List, [], length, refl, sym, ◌∙◌, ap, subst, arith, inl, inr, None}
+use Rattle.std.proofs.{lemmas.Grind.common_steps, Common.{◌≡◌, ℕ, ◌+◌, ◌≤◌, true, false, cond, List, [], length, refl, ◌∙◌, ap, subst}}
+use Rattle.std.proofs.Common.{arith, None}
 use Rattle.std.specs.List.{Contains}
 use Rattle.lc_paths.specs.Explanations.Explained.{Explanation, ignored, cited, said_for, IsExplained, said_of_none}
-use Rattle.lc_paths.specs.Explanations.{Laws.{IsSaidKept, EntryLaw}, OpenDirs.{DirStack, MayEnter}}
+use Rattle.lc_paths.specs.{Explanations.{Laws.{IsSaidKept, EntryLaw}, OpenDirs.{DirStack, MayEnter}}}
 use Rattle.lc_paths.specs.declared.explaining.explain_options.ExplainOptions.{ExplainOptions}
 use Rattle.lc_glob.specs.Path.{path_in, segments_of}
-use Rattle.lc_level.specs.{Answers.Tree, Level.{Reason, named_git, by_rule, by_attribute, not_included, other_kind, counted, skipped}}
-use Rattle.lc_level.specs.{Filters.FiltersModel, TopJob.top_job}
+use Rattle.lc_level.specs.{Answers.Tree, Level.{Reason, counted, skipped}, Filters.FiltersModel, TopJob.top_job}
 use Rattle.lc_text.specs.PathLines.{is_bad_path}
 use Rattle.lc_tree.specs.Trees.{Listings, Contents}
 use Rattle.lc_walk.specs.{ReportLines.skipped_paths, RecursiveWalk.walk_of, WalkOptions.{asked_by, top_of}, FoundReports.IsReportOf}
-use Rattle.lc_walk.specs.declared.{options.{Options.Options, ReportLists.ReportLists}, report.Report.Report}
+use Rattle.lc_walk.specs.{declared.{options.{Options.Options, ReportLists.ReportLists}, report.Report.Report}}
 use Rattle.lc_walk.proofs.{FoundByPlace.place_by_walk, RowTrees.by_answers}
 use Rattle.lc_laws.specs.{ByAnswers.{EntersBy, SaysEntering, IsEntryBy}, CountsExplained.{AskAlike, IsSaidSkipped, AgreesOn}}
 use Rattle.lc_laws.specs.{CountsExplained.{AnswersExplainedLaw, ExplainedLaw}, ReportedPaths.{IsCounted, IsSkipped}}
@@ -22,24 +22,11 @@ use Rattle.lc_laws.proofs.SameWay.{said_by_other}
 said_skipped : (s : FiltersModel) (stack : DirStack) (reason : Reason) (x : Explanation) → x
     ≡ said_for (cited s stack) ignored reason
     → IsSaidSkipped reason x
-said_skipped s stack named_git x e = e
-said_skipped s stack (by_rule source line) x e = ((cited s stack source line).text, e)
-said_skipped s stack (by_attribute name) x e = e
-said_skipped s stack not_included x e = e
-said_skipped s stack (other_kind what) x e = e
+said_skipped s stack reason x e = grind (arith, common_steps)
 
 -- what is said to be left out is not said to be taken
 not_both : (reason : Reason) (x : Explanation) → IsSaidSkipped reason x → IsSaidKept x → ⊥
-not_both named_git x e (inl u) = absurd (cc (sym e ∙ u))
-not_both named_git x e (inr u) = absurd (cc (sym e ∙ u.1))
-not_both (by_rule source line) x e (inl u) = absurd (cc (sym e.1 ∙ u))
-not_both (by_rule source line) x e (inr u) = absurd (cc (sym e.1 ∙ u.1))
-not_both (by_attribute name) x e (inl u) = absurd (cc (sym e ∙ u))
-not_both (by_attribute name) x e (inr u) = absurd (cc (sym e ∙ u.1))
-not_both not_included x e (inl u) = absurd (cc (sym e ∙ u))
-not_both not_included x e (inr u) = absurd (cc (sym e ∙ u.1))
-not_both (other_kind what) x e (inl u) = absurd (cc (sym e ∙ u))
-not_both (other_kind what) x e (inr u) = absurd (cc (sym e ∙ u.1))
+not_both reason x e is = grind (arith, common_steps)
 
 module _ (law : EntryLaw) (Enters : Entering) (s : FiltersModel) (whole : s.only ≡ None) (x : Explanation)
     (t : Tree) (known : IsKnown Enters s (top_job s) t)
@@ -80,8 +67,7 @@ module _ (law : EntryLaw) (Enters : Entering) (s : FiltersModel) (whole : s.only
 same_question : (Enters : Entering) (o : Options) (q : ExplainOptions) → AskAlike o q → (path : List ℕ) (x : Explanation)
     → SaysEntering q Enters path false x
     → IsExplained Enters (asked_by o).filters path false x
-same_question Enters o q alike path x said =
-    subst (λ (f : FiltersModel). IsExplained Enters f path false x) (sym alike.filters) said
+same_question Enters o q alike path x said = grind (arith, common_steps)
 
 asks_whole : (o : Options) (q : ExplainOptions) → AskAlike o q → (asked_by o).filters.only ≡ None
 asks_whole o q alike = ap (λ (w : FiltersModel). w.only) alike.filters ∙ alike.whole

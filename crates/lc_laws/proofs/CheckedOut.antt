@@ -1,10 +1,9 @@
 -- The report of a count agrees with a check by the top's rules.
-use Rattle.std.proofs.Common.{◌≡◌, ℕ, ◌+◌, ◌<◌, ◌≤◌, Bool, true, false, cond, nat_eq, List, [], ◌∷◌, ◌++◌, length, take, get_or, refl}
-use Rattle.std.proofs.Common.{sym, ◌∙◌, ap, subst, arith, Some, ◌⊎◌, inl, inr, length-append, append_assoc, codes}
-use Rattle.std.proofs.Math.Seq.{get_or-append_seam, take-append_seam}
+use Rattle.std.proofs.{lemmas.Grind.common_steps, Common.{◌≡◌, ℕ, ◌+◌, ◌<◌, ◌≤◌, Bool, true, false, cond, nat_eq, List, [], ◌∷◌, ◌++◌}}
+use Rattle.std.proofs.Common.{length, take, get_or, refl, sym, ◌∙◌, ap, subst, arith, Some, ◌⊎◌, inl, inr, length-append, append_assoc}
+use Rattle.std.proofs.{Common.codes, Math.Seq.{get_or-append_seam, take-append_seam}}
 use Rattle.std.specs.List.{Contains}
-use Rattle.lc_paths.specs.{Explanations.OpenDirs.kind_in, Checks.CheckText.{file_verdict, is_ignored, has_ignored_parent, verdict_word}}
-use Rattle.lc_paths.specs.Checks.CheckText.{path_word}
+use Rattle.lc_paths.specs.Checks.CheckText.{file_verdict, is_ignored, has_ignored_parent, verdict_word, path_word}
 use Rattle.lc_paths.proofs.{Explanations.PathSegments.names_below, Checks.Directories.{is_ignored_parent-slash, has_ignored_parent-some}}
 use Rattle.lc_glob.proofs.Naming.{has_first, segments_apart}
 use Rattle.lc_glob.specs.{Bytes.slash, Path.{path_in, segments_of}}
@@ -13,54 +12,34 @@ use Rattle.lc_level.specs.{Filters.{FiltersModel, no_filters}, TopJob.top_job}
 use Rattle.lc_level.proofs.WellFormed.{Spread}
 use Rattle.lc_rules.specs.{IgnoreChains.rules_in, IgnoreLaws.LastMatchLaw, IgnoreRules.{RuleModel, rules_of}, Verdicts.at_depth}
 use Rattle.lc_rules.specs.{Verdicts.{last_match, verdict_from}, declared.rule_source.RuleSource.RuleSource}
-use Rattle.lc_rules.specs.declared.verdicts.Verdict.{Verdict, TheVariants.{Ignored, Included, NoRule}}
+use Rattle.lc_rules.specs.{declared.verdicts.Verdict.{Verdict, TheVariants.{Ignored, Included}}}
 use Rattle.lc_text.specs.PathLines.{is_bad_path}
 use Rattle.lc_tree.specs.{Kinds.is_dir, Paths.names_of_path, Trees.{Listings, Contents}, declared.entry.Kind.{Kind, TheVariants.Dir}}
 use Rattle.lc_walk.specs.{Accounts.RuleLaw, FoundAt.{IsListed, LeadsTo}, GivenAnswers.{HasListings, IsGiven}, RecursiveWalk.walk_of}
 use Rattle.lc_walk.specs.{WalkOptions.{asked_by, top_of}, FoundReports.IsReportOf}
-use Rattle.lc_walk.specs.declared.{options.{Options.Options, ReportLists.ReportLists}, report.Report.Report}
+use Rattle.lc_walk.specs.{declared.{options.{Options.Options, ReportLists.ReportLists}, report.Report.Report}}
 use Rattle.lc_walk.proofs.{Elements.{In, is_in, contains}, Levels.well_formed_items, RowTrees.by_answers}
 use Rattle.lc_laws.specs.{ByAnswers.{kind_before, IsEntryBy}, CountsChecked.{ReadsTopRules, AsksRulesAlone, IsCheckedOut, IsRuledOut}}
 use Rattle.lc_laws.specs.{CountsChecked.{CheckAgrees, AnswersCheckedLaw, CheckedLaw}, ReportedPaths.IsSkipped}
-use Rattle.lc_laws.proofs.{Checking.decided, Items.{named_item, entry_by_lists}, OneWay.{kind_found, good_name, one_segment, place_names}}
-use Rattle.lc_laws.proofs.TopRules.{rules_at, reads_by_lists}
+use Rattle.lc_laws.proofs.{Checking.decided, Items.{named_item, named_kind, entry_by_lists}, OneWay.{kind_found, good_name, one_segment}}
+use Rattle.lc_laws.proofs.{OneWay.place_names, TopRules.{rules_at, reads_by_lists}}
 
 -- ---- the words of a check
 
 module _ (verdict : List ℕ → Bool → Verdict) (path : List ℕ) (as_dir : Bool) (good : is_bad_path path ≡ false) where
   word_is : (above : Bool) → has_ignored_parent verdict path ≡ above
       → path_word verdict path as_dir ≡ cond above (codes "below") (verdict_word (verdict path as_dir))
-  word_is above is =
-      ap (λ b. cond b (codes "bad") (cond (has_ignored_parent verdict path) (codes "below") (verdict_word (verdict path as_dir)))) good
-      ∙ ap (λ b. cond b (codes "below") (verdict_word (verdict path as_dir))) is
-
-  no_word : (v : Verdict) → is_ignored v ≡ false → (verdict_word v ≡ codes "ignored") ⊎ (verdict_word v ≡ codes "below") → ⊥
-  no_word Ignored kept word = absurd (cc kept)
-  no_word Included kept (inl e) = absurd (cc e)
-  no_word Included kept (inr e) = absurd (cc e)
-  no_word NoRule kept (inl e) = absurd (cc e)
-  no_word NoRule kept (inr e) = absurd (cc e)
+  word_is above is = grind (arith, common_steps)
 
   -- what is not ignored and stands below nothing that is, is said to be neither
   not_out : has_ignored_parent verdict path ≡ false → is_ignored (verdict path as_dir) ≡ false
       → (path_word verdict path as_dir ≡ codes "ignored") ⊎ (path_word verdict path as_dir ≡ codes "below") → ⊥
-  not_out clear kept (inl e) = no_word (verdict path as_dir) kept (inl (sym (word_is false clear) ∙ e))
-  not_out clear kept (inr e) = no_word (verdict path as_dir) kept (inr (sym (word_is false clear) ∙ e))
-
-  ignored_word : (v : Verdict) → is_ignored v ≡ true → verdict_word v ≡ codes "ignored"
-  ignored_word Ignored e = refl
-  ignored_word Included e = absurd (cc e)
-  ignored_word NoRule e = absurd (cc e)
+  not_out clear kept so = grind (arith, common_steps, word_is)
 
   -- what is ignored is said to be, or to stand below what is
   out_itself : is_ignored (verdict path as_dir) ≡ true
       → (path_word verdict path as_dir ≡ codes "ignored") ⊎ (path_word verdict path as_dir ≡ codes "below")
-  out_itself is = at (has_ignored_parent verdict path) refl
-    where
-      at : (b : Bool) → has_ignored_parent verdict path ≡ b
-          → (path_word verdict path as_dir ≡ codes "ignored") ⊎ (path_word verdict path as_dir ≡ codes "below")
-      at true e = inr (word_is true e)
-      at false e = inl (word_is false e ∙ ignored_word (verdict path as_dir) is)
+  out_itself is = grind (arith, common_steps, word_is)
 
   -- and so is what stands below a directory that is
   out_below : (directory rest : List ℕ) → path ≡ directory ++ slash ∷ rest → is_ignored (verdict directory true) ≡ true
@@ -88,17 +67,13 @@ kind_same s top t at_top listings place k leads items inside listed item has pat
     ∙ ap (λ p. names_of_path p ++ place) at_top)
     ∙ ap (λ l. place ++ l) (one_segment (name_of item) (good_name items spread item has)) in
     let i = named_item items (name_of item) kind (entry place (name_of item) [] k items names leads listed.here) in
-    let mine : kind_in (entries_of items) (name_of item) ≡ Some (entry_of item).kind = kind_found items spread item has in
-    let its : kind_in (entries_of items) (name_of item) ≡ Some (entry_of i.item).kind =
-    subst (λ n. kind_in (entries_of items) n ≡ Some (entry_of i.item).kind) i.named (kind_found items spread i.item i.has) in
-    let both : Some (entry_of item).kind ≡ Some (entry_of i.item).kind = sym mine ∙ its in
-    let same : (entry_of item).kind ≡ (entry_of i.item).kind = cc both in
-    same ∙ i.kind_is
+    let both : Some (entry_of item).kind ≡ Some kind =
+    sym (kind_found items spread item has) ∙ named_kind items (name_of item) kind spread i in
+    cc both
 
 kind_above : (kind : Kind) (names : List (List ℕ)) (next : List ℕ) (others : List (List ℕ))
     → kind_before kind (names ++ next ∷ others) ≡ kind_before Dir names
-kind_above kind [] next others = refl
-kind_above kind (n ∷ names) next others = refl
+kind_above kind names next others = grind (arith, common_steps)
 
 -- a directory above an entry is one
 entry_above : (s : FiltersModel) (top : JobModel) (t : Tree) (path directory next : List ℕ) (others : List (List ℕ)) (kind : Kind)
@@ -162,8 +137,7 @@ module _ (law : RuleLaw) (last : LastMatchLaw) (t : Tree) (listings : HasListing
 -- a count by the rules of a tree alone is no_filters, and begins with no rules
 plainly : (o : Options) → AsksRulesAlone o → (Q : FiltersModel → JobModel → Type 0) → Q (asked_by o).filters (top_of o)
     → Q no_filters (top_job no_filters)
-plainly o asks Q holds =
-    subst (λ (f : FiltersModel). Q f (top_job f)) asks.filters holds
+plainly o asks Q holds = grind (arith, common_steps)
 
 -- so does the report by some answers
 pub answers_checked_law : RuleLaw → LastMatchLaw → AnswersCheckedLaw

@@ -1,6 +1,6 @@
 -- A path and its first segment.
-use Rattle.std.proofs.Common.{◌≡◌, ℕ, Bool, true, false, nat_eq, List, [], ◌∷◌, ◌++◌, refl, sym, ◌∙◌, ap, arith}
-use Rattle.std.proofs.lemmas.List.Splits.{slice_split-cons_yes, slice_split-cons_no}
+use Rattle.std.proofs.{lemmas.{Grind.common_steps, List.Splits.{slice_split-cons_yes, slice_split-cons_no}}, Common.{◌≡◌, ℕ, Bool, true}}
+use Rattle.std.proofs.Common.{false, nat_eq, List, [], ◌∷◌, ◌++◌, refl, sym, ◌∙◌, ap, arith}
 use Rattle.std.specs.List.{onto_first}
 use Rattle.lc_glob.specs.{Bytes.slash, Path.segments_of}
 use Rattle.lc_glob.proofs.Naming.{has_first, some_segment}
@@ -20,20 +20,10 @@ is_slash : (b : ℕ) → nat_eq b 47 ≡ true → b ≡ 47
 is_slash b e = search (arith, e)
 
 at_slash : (b : ℕ) (bs name : List ℕ) (names : List (List ℕ)) → b ≡ slash → [] ∷ segments_of bs ≡ name ∷ names → IsCut (b ∷ bs) name names
-at_slash b bs name [] is e = absurd (some_segment bs (same_tail [] name (segments_of bs) [] e))
-at_slash b bs name (next ∷ names) is e = (
-  bs,
-  ap (λ c. c ∷ bs) is ∙ ap (λ n. n ++ slash ∷ bs) (same_head [] name (segments_of bs) (next ∷ names) e),
-  same_tail [] name (segments_of bs) (next ∷ names) e,
-)
+at_slash b bs name names is e = grind (arith, common_steps, some_segment, same_tail, same_head)
 
 longer : (b : ℕ) (bs first name : List ℕ) (names : List (List ℕ)) → b ∷ first ≡ name → IsCut bs first names → IsCut (b ∷ bs) name names
-longer b bs first name [] is cut = ap (λ l. b ∷ l) cut ∙ is
-longer b bs first name (next ∷ names) is (others, whole, same) = (
-  others,
-  ap (λ l. b ∷ l) whole ∙ ap (λ n. n ++ slash ∷ others) is,
-  same,
-)
+longer b bs first name names is cut = grind (arith, common_steps)
 
 -- so they are, by their segments
 pub first_cut : (rest name : List ℕ) (names : List (List ℕ)) → segments_of rest ≡ name ∷ names → IsCut rest name names

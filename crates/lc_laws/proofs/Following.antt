@@ -1,10 +1,10 @@
 -- What is said of an entry to which names lead.
-use Rattle.std.proofs.Common.{◌≡◌, ℕ, Bool, true, false, cond, List, [], ◌∷◌, ◌++◌, refl, sym, ◌∙◌, ap, subst, Option, Some, None, Result}
-use Rattle.std.proofs.Common.{MatchResult}
+use Rattle.std.proofs.Common.{arith, ◌≡◌, ℕ, Bool, true, false, cond, List, [], ◌∷◌, ◌++◌, refl, sym, ◌∙◌, ap, subst, Option, Some, None}
+use Rattle.std.proofs.{Common.Result, lemmas.Grind.common_steps}
 use Rattle.std.specs.Option.{is_none}
-use Rattle.lc_paths.specs.Explanations.Explained.{Explanation, faulted, below, cited, said_for, said_of, said_beside, kind_asked}
-use Rattle.lc_paths.specs.Explanations.Explained.{is_directory, said_of_none, OnTheWay, OnEntering, IsSaid, IsExplained}
-use Rattle.lc_paths.specs.Explanations.{Laws.{Agrees, EntryLaw}, OpenDirs.{OpenDirModel, DirStack, open_dir, kind_in}}
+use Rattle.lc_paths.specs.Explanations.Explained.{Explanation, below, cited, said_for, said_of, said_beside, kind_asked, is_directory}
+use Rattle.lc_paths.specs.Explanations.Explained.{said_of_none, OnTheWay, OnEntering, IsSaid, IsExplained}
+use Rattle.lc_paths.specs.{Explanations.{Laws.{Agrees, EntryLaw}, OpenDirs.{OpenDirModel, DirStack, open_dir, kind_in}}}
 use Rattle.lc_paths.proofs.Explanations.PathSegments.{names_below}
 use Rattle.lc_glob.specs.Path.{path_in, segments_of}
 use Rattle.lc_level.specs.{Answers.{Item, directory_item, name_of, entry_of, entries_of, Answers, Tree}, FaultLines.FaultLineModel}
@@ -12,7 +12,7 @@ use Rattle.lc_level.specs.{Job.JobModel, Level.{Reason, Fate, fate_of, reason_of
 use Rattle.lc_level.specs.TopJob.{top_job}
 use Rattle.lc_level.proofs.WellFormed.{Spread}
 use Rattle.lc_text.specs.PathLines.{is_bad_path}
-use Rattle.lc_tree.specs.{Listing.EntryModel, declared.entry.Kind.{Kind, TheVariants.{File, Dir, Other}}}
+use Rattle.lc_tree.specs.{Listing.EntryModel, declared.entry.Kind.{Kind, TheVariants.Dir}}
 use Rattle.lc_walk.specs.FoundAt.{IsListed, LeadsTo, HasEntry}
 use Rattle.lc_walk.proofs.{Elements.In, Levels.well_formed_items}
 use Rattle.lc_laws.proofs.OneWay.{listed_entered, kind_found, good_name, one_segment, place_names, Entering, IsKnown, known_below}
@@ -20,25 +20,19 @@ use Rattle.lc_laws.proofs.{OneWay.known_listings, TakingPart.in_part}
 
 -- what is none has no reason
 pub none_is : {A : Type 0} (o : Option A) → is_none o ≡ true → o ≡ None
-none_is None e = refl
-none_is (Some x) e = absurd (cc e)
+none_is o e = grind (arith, common_steps)
 
 -- what is asked about with no slash at its end is asked about as what it is
 pub asked_as_it_is : (kind : Kind) → kind_asked false (Some kind) ≡ kind
-asked_as_it_is File = refl
-asked_as_it_is Dir = refl
-asked_as_it_is (Other what) = refl
+asked_as_it_is kind = grind (arith, common_steps)
 
 -- a directory that nothing leaves out is gone into
 pub went_into : (reason : Option Reason) (is_there : Bool) (Skipped : Reason → Type 0) (Into Beside : Type 0) → reason ≡ None
     → is_there ≡ true → OnTheWay reason is_there Skipped Into Beside → Into
-went_into None true Skipped Into Beside a b stack = stack
-went_into None false Skipped Into Beside a b stack = absurd (cc b)
-went_into (Some r) is_there Skipped Into Beside a b stack = absurd (cc a)
+went_into reason is_there Skipped Into Beside a b stack = grind (arith, common_steps)
 
 some_end : (place : List (List ℕ)) (name : List ℕ) → place ++ name ∷ [] ≡ [] → ⊥
-some_end [] name e = cc
-some_end (n ∷ place) name e = cc
+some_end place name e = grind (arith, common_steps)
 
 module _ (Enters : Entering) (s : FiltersModel) (x : Explanation) where
   -- so it is said of names below a directory that is entered at the end of a way
@@ -56,16 +50,7 @@ module _ (Enters : Entering) (s : FiltersModel) (x : Explanation) where
   pub said_in : (stack : DirStack) (j : JobModel) (a : Answers) (items : List Item) (inside : JobModel) (names : List (List ℕ))
       → ((entered : Result OpenDirModel FaultLineModel) → Enters j entered → entered ≡ open_dir j a) → IsListed j a items inside
       → IsSaidBelow stack j names → IsSaidIn stack items inside names
-  said_in stack j a items inside names known listed (entered, enters, said) =
-      let e = listed_entered j a items inside listed in
-      record {
-        here = e.here;
-        job = e.job;
-        entries = e.entries;
-        says = subst (λ (r : Result OpenDirModel FaultLineModel). MatchResult r
-            (λ here. IsSaid Enters s (stack ++ here ∷ []) here names false x) (λ fault. x ≡ faulted fault))
-            (known entered enters ∙ e.is) said;
-      }
+  said_in stack j a items inside names known listed so = grind (arith, common_steps, listed_entered)
 
   -- a name before others
   pub on_the_way : (stack : DirStack) (here : OpenDirModel) (name : List ℕ) (names : List (List ℕ)) → (names ≡ [] → ⊥)
@@ -73,8 +58,7 @@ module _ (Enters : Entering) (s : FiltersModel) (x : Explanation) where
       OnTheWay (reason_for s here.job name (kind_asked true (kind_in here.entries name))) (is_directory (kind_in here.entries name))
       (λ reason. x ≡ said_for (cited s stack) below reason) (IsSaidBelow stack (child_job here.job name) names)
       (x ≡ said_beside s stack (child_job here.job name) names false)
-  on_the_way stack here name [] some said = absurd (some refl)
-  on_the_way stack here name (next ∷ names) some said = said
+  on_the_way stack here name names some said = grind (arith, common_steps)
 
   -- what is said of a name in a directory of these items
   pub record IsSaidOf (items : List Item) (inside : JobModel) (name : List ℕ) : Type 0 where
@@ -84,13 +68,7 @@ module _ (Enters : Entering) (s : FiltersModel) (x : Explanation) where
   -- what is said at the end of a path is said of its last name
   pub said_at_end : (stack : DirStack) (items : List Item) (inside : JobModel) (name : List ℕ)
       → IsSaidIn stack items inside (name ∷ []) → IsSaidOf items inside name
-  said_at_end stack items inside name a = record {
-    stack = stack ++ a.here ∷ [];
-    is = a.says
-        ∙ ap (λ (j : JobModel). said_of s (stack ++ a.here ∷ []) j name (kind_asked false (kind_in a.here.entries name))) a.job
-        ∙ ap (λ (es : List EntryModel). said_of s (stack ++ a.here ∷ []) inside name (kind_asked false (kind_in es name)))
-        a.entries;
-  }
+  said_at_end stack items inside name a = grind (arith, common_steps)
 
   -- what is said of names that the walk goes down is said at their end
   followed : (place : List (List ℕ)) (stack : DirStack) (j k : JobModel) (t : Tree) (items : List Item) (inside : JobModel)

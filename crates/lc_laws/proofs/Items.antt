@@ -1,19 +1,20 @@
 -- The items of a directory to which names lead.
-use Rattle.std.proofs.Common.{◌≡◌, ℕ, List, [], ◌∷◌, ◌++◌, refl, sym, ap, subst, Ok}
+use Rattle.std.proofs.{Common.{arith, ◌≡◌, ℕ, List, [], ◌∷◌, ◌++◌, sym, ap, subst, Ok, Some}, lemmas.Grind.common_steps}
 use Rattle.std.specs.List.{Contains}
+use Rattle.lc_paths.specs.Explanations.OpenDirs.{kind_in}
 use Rattle.lc_glob.specs.Path.{path_in}
-use Rattle.lc_level.specs.{Answers.{Item, file_item, directory_item, other_item, name_of, entry_of, entries_of, Items, Tree}, Job.JobModel}
-use Rattle.lc_level.specs.{Level.child_job, OneAnswer.GivesOne, Filters.FiltersModel, TreeAnswers.MayList}
+use Rattle.lc_level.specs.{Answers.{Item, directory_item, name_of, entry_of, entries_of, Tree}, Job.JobModel, Level.child_job}
+use Rattle.lc_level.specs.{OneAnswer.GivesOne, Filters.FiltersModel}
+use Rattle.lc_level.proofs.WellFormed.{Spread}
 use Rattle.lc_tree.specs.{Listing.EntryModel, Trees.{Listings, Contents}, declared.entry.Kind.{Kind, TheVariants.Dir}}
 use Rattle.lc_walk.specs.{FoundAt.LeadsTo, GivenAnswers.IsGiven}
 use Rattle.lc_walk.proofs.Elements.{In, is_in, in_mapped}
 use Rattle.lc_laws.specs.{ByAnswers.{kind_before, IsEntryBy}, Entries.{HasListed, LeadDown, IsEntry}}
+use Rattle.lc_laws.proofs.OneWay.{kind_found}
 
 -- an item of a directory is that of its name
 pub directory_is : (item : Item) → (entry_of item).kind ≡ Dir → item ≡ directory_item (name_of item)
-directory_is (file_item n c rules) e = absurd (cc e)
-directory_is (directory_item n) e = refl
-directory_is (other_item n what) e = absurd (cc e)
+directory_is item e = grind (arith, common_steps)
 
 -- an item of a name and a kind
 pub record IsItem (items : List Item) (name : List ℕ) (own : Kind) : Type 0 where
@@ -35,6 +36,11 @@ named_item items name own there =
       kind_is = ap (λ (e : EntryModel). e.kind) m.2;
     }
 
+-- what stands under the name is of that kind
+pub named_kind : (items : List Item) (name : List ℕ) (own : Kind) → Spread items → IsItem items name own
+    → kind_in (entries_of items) name ≡ Some own
+named_kind items name own spread i = grind (arith, common_steps, kind_found)
+
 -- ---- where a tree answers in one way
 
 some_more : (place : List (List ℕ)) (name : List ℕ) (names : List (List ℕ)) → place ++ name ∷ names ≡ [] → ⊥
@@ -44,14 +50,12 @@ some_more (n ∷ place) name names e = cc
 -- names lead on past a name
 down_past : (lists : List ℕ → Listings) (directory name : List ℕ) (names : List (List ℕ)) (kind : Kind) → (names ≡ [] → ⊥)
     → LeadDown lists directory (name ∷ names) kind → LeadDown lists (path_in directory name) names kind
-down_past lists directory name [] kind some down = absurd (some refl)
-down_past lists directory name (next ∷ names) kind some down = down.1
+down_past lists directory name names kind some down = grind (arith, common_steps)
 
 -- the first of them is listed
 listed_first : (lists : List ℕ → Listings) (directory name : List ℕ) (names : List (List ℕ)) (kind : Kind)
     → LeadDown lists directory (name ∷ names) kind → HasListed lists directory name (kind_before kind names)
-listed_first lists directory name [] kind down = down
-listed_first lists directory name (next ∷ names) kind down = down.0
+listed_first lists directory name names kind down = grind (arith, common_steps)
 
 module _ (lists : List ℕ → Listings) (gives : List ℕ → Contents) (one : GivesOne lists gives) (s : FiltersModel) where
   listed_at : (place : List (List ℕ)) (j k : JobModel) (t : Tree) (name : List ℕ) (names : List (List ℕ)) (kind : Kind)
@@ -70,15 +74,9 @@ module _ (lists : List ℕ → Listings) (gives : List ℕ → Contents) (one : 
   pub has_listed : (top : JobModel) (t : Tree) → IsGiven lists gives s top t → (place : List (List ℕ)) (k : JobModel) (items : List Item)
       → LeadsTo s top t place k → (t place).here ≡ Ok items → (name : List ℕ) (own : Kind) → HasListed lists k.path name own
       → Contains (entries_of items) (record { name = name; kind = own })
-  has_listed top t given place k items leads here name own (entries, may, has) =
-      let lists_items = (subst (λ (o : Items). MayList lists gives k.path o) here (given place k leads).here).0 in
-      let same : Ok entries ≡ Ok (entries_of items) = one.listing k.path (Ok entries) (Ok (entries_of items)) may lists_items in
-      subst (λ es. Contains es (record { name = name; kind = own })) (cc same) has
+  has_listed top t given place k items leads here name own so = grind (arith, common_steps)
 
   -- so an entry of the tree is one of its answers
   pub entry_by_lists : (top : JobModel) (t : Tree) → top.path ≡ [] → IsGiven lists gives s top t → (path : List ℕ) (kind : Kind)
       → IsEntry lists path kind → IsEntryBy s top t path kind
-  entry_by_lists top t at_top given path kind entry place name names k items cut leads here =
-      has_listed top t given place k items leads here name (kind_before kind names)
-      (listed_at place top k t name names kind leads
-      (subst (λ d. LeadDown lists d (place ++ name ∷ names) kind) (sym at_top) (subst (λ l. LeadDown lists [] l kind) cut entry)))
+  entry_by_lists top t at_top given path kind entry = grind (arith, common_steps, has_listed, listed_at)

@@ -13,6 +13,7 @@ pub mod SameWay
 pub mod SlashByAnswers
 pub mod SlashesSaidAlike
 pub mod TakingPart
+pub mod Elements
 pub mod ExplainedEntries
 pub mod TopRules
 pub mod ReportSheets
@@ -20,7 +21,6 @@ pub mod SheetRecords
 pub mod SharesPrinted
 pub mod PlainText
 pub mod GivenRules
-pub mod IncludedFates
 pub mod IncludedOnes
 pub mod JsonMembers
 pub mod PrintedMembers

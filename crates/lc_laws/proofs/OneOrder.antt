@@ -1,12 +1,13 @@
 -- Lists whose elements rise are the same if they have the same elements.
-use Rattle.std.proofs.Common.{◌≡◌, ◌∙◌, ℕ, Bool, true, false, cond, List, [], ◌∷◌, map, filter, refl, sym, ap, subst, inl, inr}
-use Rattle.std.proofs.{Common.{IsPermutation, IsSortedByKey}, lemmas.Cmp.nat_list_cmp_total}
-use Rattle.std.proofs.lemmas.{List.Sorted.{Contains-permutation, IsPermutation-map, IsPermutation-sym}, Map.Keys.IsDistinct-from_sorted}
-use Rattle.std.specs.{Prelude.⊤, Cmp.IsTotalOrder, List.{AllByRecursion, Sorted.IsStrictlySortedBy}, Ordering.ordering_reverse}
-use Rattle.std.specs.declared.cmp.Ordering.{Ordering, TheVariants.Less}
+use Rattle.std.proofs.Common.{arith, ◌≡◌, ◌∙◌, ℕ, Bool, cond, List, [], ◌∷◌, map, filter, refl, sym, ap, subst, inl, inr, IsPermutation}
+use Rattle.std.proofs.{Common.IsSortedByKey, lemmas.{Grind.common_steps, Cmp.nat_list_cmp_total}}
+use Rattle.std.proofs.{lemmas.{List.Sorted.{Contains-permutation, IsPermutation-map, IsPermutation-sym}, Map.Keys.IsDistinct-from_sorted}}
+use Rattle.std.specs.{Prelude.⊤, Cmp.IsTotalOrder, List.{AllByRecursion, Sorted.IsStrictlySortedBy}, declared.cmp.Ordering.Ordering}
+use Rattle.std.specs.declared.cmp.Ordering.TheVariants.{Less}
 use Rattle.lc_tree.proofs.Sorting.{sorted_paths}
 use Rattle.lc_tree.specs.ByteOrder.{AreInOrder, bytes_cmp}
 use Rattle.lc_walk.proofs.Elements.{In, is_in, contains}
+use Rattle.lc_laws.proofs.Elements.{of_each}
 
 module _ {X K : Type 0} (key : X → K) (cmp : K → K → Ordering) (total : IsTotalOrder cmp) where
   abbrev pub IsBelow : X → X → Type 0
@@ -25,29 +26,13 @@ module _ {X K : Type 0} (key : X → K) (cmp : K → K → Ordering) (total : Is
   rises [] order = tt
   rises (x ∷ xs) order = (below_each x xs order.0, rises xs order.1)
 
-  below_one : (x y : X) (xs : List X) → AllByRecursion (IsBelow x) xs → In y xs → IsBelow x y
-  below_one x y [] all i = absurd i
-  below_one x y (z ∷ zs) all (inl e) = subst (IsBelow x) e all.0
-  below_one x y (z ∷ zs) all (inr i) = below_one x y zs all.1 i
-
-  not_both : (x y : X) → IsBelow x y → IsBelow y x → ⊥
-  not_both x y a b =
-      let turned : Less ≡ ordering_reverse Less = sym a ∙ total.antisymm (key x) (key y) ∙ ap ordering_reverse b in cc
-
   first_same : (x y : X) (xs ys : List X) → AllByRecursion (IsBelow x) xs → AllByRecursion (IsBelow y) ys → In x (y ∷ ys)
       → In y (x ∷ xs) → x ≡ y
-  first_same x y xs ys above_x above_y (inl e) j = sym e
-  first_same x y xs ys above_x above_y (inr i) (inl e) = e
-  first_same x y xs ys above_x above_y (inr i) (inr j) = absurd (not_both x y (below_one x y xs above_x j) (below_one y x ys above_y i))
+  first_same x y xs ys above_x above_y is j = grind (arith, common_steps, of_each)
 
   -- what is in both is in the rest of both
   in_rest : (x y z : X) (xs ys : List X) → x ≡ y → AllByRecursion (IsBelow x) xs → In z xs → In z (y ∷ ys) → In z ys
-  in_rest x y z xs ys same above i (inl e) =
-      let here : x ≡ z = same ∙ e in
-      let less : IsBelow x z = below_one x z xs above i in
-      let back : IsBelow z x = subst (λ u. IsBelow u x) here (subst (IsBelow x) (sym here) less) in
-      absurd (not_both x z less back)
-  in_rest x y z xs ys same above i (inr j) = j
+  in_rest x y z xs ys same above i is = grind (arith, common_steps, of_each)
 
   one_order : (xs ys : List X) → Rises xs → Rises ys → ((z : X) → In z xs → In z ys) → ((z : X) → In z ys → In z xs) → xs ≡ ys
   one_order [] [] rx ry there back = refl
@@ -67,8 +52,7 @@ module _ {X K : Type 0} (key : X → K) (cmp : K → K → Ordering) (total : Is
   -- fewer keys rise too
   if_kept : (P : K → Type 0) (b : Bool) (x : X) (xs : List X) → P (key x) → AllByRecursion P (map key xs)
       → AllByRecursion P (map key (cond b (x ∷ xs) xs))
-  if_kept P true x xs first rest = (first, rest)
-  if_kept P false x xs first rest = rest
+  if_kept P b x xs first rest = grind (arith, common_steps)
 
   all_filtered : (P : K → Type 0) (p : X → Bool) (xs : List X) → AllByRecursion P (map key xs) → AllByRecursion P (map key (filter p xs))
   all_filtered P p [] all = tt
@@ -77,8 +61,7 @@ module _ {X K : Type 0} (key : X → K) (cmp : K → K → Ordering) (total : Is
   rises_if_kept : (b : Bool) (x : X) (xs : List X) → AllByRecursion (λ k. cmp (key x) k ≡ Less) (map key xs)
       → IsStrictlySortedBy cmp (map key xs) → IsStrictlySortedBy cmp (map key (cond b (x ∷ xs) xs))
   unfolding IsStrictlySortedBy
-  rises_if_kept true x xs above rest = (above, rest)
-  rises_if_kept false x xs above rest = rest
+  rises_if_kept b x xs above rest = grind (arith, common_steps)
 
   pub filtered_risen : (p : X → Bool) (xs : List X) → IsStrictlySortedBy cmp (map key xs) → IsStrictlySortedBy cmp (map key (filter p xs))
   unfolding IsStrictlySortedBy
@@ -98,10 +81,7 @@ same_sorted path xs ys order moved sorted =
 paths_of_texts : {X T : Type 0} (show : X → T) (path : X → List ℕ) (path_in : T → List ℕ) → ((x : X) → path_in (show x) ≡ path x)
     → (xs : List X) → map path_in (map show xs) ≡ map path xs
 paths_of_texts show path path_in same [] = refl
-paths_of_texts show path path_in same (x ∷ xs) =
-    let first : path_in (show x) ≡ path x = same x in
-    let rest : map path_in (map show xs) ≡ map path xs = paths_of_texts show path path_in same xs in
-    λ i. first i ∷ rest i
+paths_of_texts show path path_in same (x ∷ xs) = grind (arith, common_steps, paths_of_texts show path path_in same xs)
 
 -- and lines of which texts show the paths have the same texts, where lines in another order have these
 pub risen_texts : {X T : Type 0} (show : X → T) (path : X → List ℕ) (path_in : T → List ℕ) → ((x : X) → path_in (show x) ≡ path x)

@@ -1,4 +1,5 @@
 -- In the text of a report that was printed one report is read.
+use Rattle.std.proofs.lemmas.Grind.{common_steps}
 use Rattle.std.proofs.Common.{◌≡◌, ◌∙◌, ◌<◌, ℕ, List, [], ◌∷◌, ◌++◌, Some, codes, length, refl, sym, ap, append_assoc, arith}
 use Rattle.std.specs.List.{flat_map}
 use Rattle.json.specs.{Json.{Json, Members, document, object}, Lex.{after_value, between, fresh, lex, punctuate, tokens}, Token.Token}
@@ -62,5 +63,4 @@ module _ (attributes : List (List ℕ)) (line blank : List ℕ) (ns : Members) (
 
 pub one_report : (attributes : List (List ℕ)) (line text : List ℕ) (ns : Members) (reports : List Report) → document line ≡ Some (object ns)
     → text ≡ line ++ codes "\n" → AreReportsOf attributes text reports → OneReport attributes line reports
-one_report attributes line text ns reports line_is text_is are =
-    one_of attributes line are.blank ns line_is are.texts reports (sym text_is ∙ are.whole) are.each are.some
+one_report attributes line text ns reports line_is text_is are = grind (arith, common_steps, one_of)

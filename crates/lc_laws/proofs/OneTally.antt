@@ -1,11 +1,11 @@
 -- Files have one tally.
-use Rattle.std.proofs.Common.{◌≡◌, ◌∙◌, ◌<◌, Bool, true, false, cond, List, [], ◌∷◌, refl, sym, ap, subst, inl, inr, arith}
-use Rattle.std.proofs.lemmas.{Cmp.tied_itself, List.Elements.recursion_from_All}
+use Rattle.std.proofs.{lemmas.{Grind.common_steps, Cmp.tied_itself, List.Elements.recursion_from_All}, Common.{◌≡◌, ◌∙◌, ◌<◌, Bool, true}}
+use Rattle.std.proofs.Common.{false, cond, List, [], ◌∷◌, refl, sym, ap, subst, inl, inr, arith}
 use Rattle.std.specs.{List.AllByRecursion, Ordering.{is_eq, ordering_reverse}, declared.cmp.Ordering.TheVariants.Less}
 use Rattle.lc_walk.proofs.{Elements.In, Keys.{equal_if, exact_keys, key_cmp_total}, RowSums.sums_of_one, TakingPart.in_filter}
 use Rattle.lc_walk.specs.{Key.{Key, key_cmp, same_key}, Tally.{CountedFile, IsTally}, TallyRows.{TallyRowModel, rows_with, sums_of_rows}}
 use Rattle.lc_walk.specs.declared.tally.sums.Sums.{Sums}
-use Rattle.lc_laws.proofs.OneOrder.{Rises, rises, risen_same}
+use Rattle.lc_laws.proofs.{OneOrder.{Rises, rises, risen_same}, Elements.of_each}
 
 abbrev row_key : TallyRowModel → Key
 row_key r = r.key
@@ -13,21 +13,16 @@ row_key r = r.key
 abbrev Below : TallyRowModel → TallyRowModel → Type 0
 Below x y = key_cmp x.key y.key ≡ Less
 
+abbrev Filled : TallyRowModel → Type 0
+Filled x = 0 < x.sums.files
+
 kept_not : (b : Bool) (x : TallyRowModel) (xs : List TallyRowModel) → b ≡ false → cond b (x ∷ xs) xs ≡ xs
-kept_not true x xs e = absurd (cc)
-kept_not false x xs e = refl
+kept_not b x xs e = grind (arith, common_steps)
 
 -- no later row has the key of an earlier one
 none_above : (k : Key) (x : TallyRowModel) (xs : List TallyRowModel) → k ≡ x.key → AllByRecursion (Below x) xs → rows_with k xs ≡ []
 none_above k x [] same all = refl
-none_above k x (y ∷ ys) same all =
-    let other : same_key k y.key ≡ false = ap (λ j. is_eq (key_cmp j y.key)) same ∙ ap is_eq all.0 in
-    kept_not (same_key k y.key) y (rows_with k ys) other ∙ none_above k x ys same all.1
-
-in_below : (x r : TallyRowModel) (xs : List TallyRowModel) → AllByRecursion (Below x) xs → In r xs → Below x r
-in_below x r [] all i = absurd i
-in_below x r (y ∷ ys) all (inl e) = subst (Below x) e all.0
-in_below x r (y ∷ ys) all (inr i) = in_below x r ys all.1 i
+none_above k x (y ∷ ys) same all = grind (arith, common_steps, kept_not, none_above k x ys same all.1)
 
 -- a row is the only one of its key
 own_rows : (r : TallyRowModel) (rs : List TallyRowModel) → Rises row_key key_cmp key_cmp_total rs → In r rs → rows_with r.key rs ≡ r ∷ []
@@ -39,16 +34,10 @@ own_rows r (x ∷ xs) order (inl e) =
     ∙ ap (λ (ys : List TallyRowModel). x ∷ ys) (none_above r.key x xs (sym (ap row_key e)) order.0)
     ∙ ap (λ (y : TallyRowModel). y ∷ []) e
 own_rows r (x ∷ xs) order (inr i) =
-    let less : key_cmp x.key r.key ≡ Less = in_below x r xs order.0 i in
+    let less : key_cmp x.key r.key ≡ Less = of_each (Below x) r xs order.0 i in
     let other : same_key r.key x.key ≡ false =
     ap is_eq (key_cmp_total.antisymm r.key x.key) ∙ ap (λ o. is_eq (ordering_reverse o)) less in
     kept_not (same_key r.key x.key) x (rows_with r.key xs) other ∙ own_rows r xs order.1 i
-
-each_filled : (r : TallyRowModel) (rs : List TallyRowModel) → AllByRecursion (λ (x : TallyRowModel). 0 < x.sums.files) rs → In r rs
-    → 0 < r.sums.files
-each_filled r [] all i = absurd i
-each_filled r (x ∷ xs) all (inl e) = subst (λ (y : TallyRowModel). 0 < y.sums.files) e all.0
-each_filled r (x ∷ xs) all (inr i) = each_filled r xs all.1 i
 
 module _ (fs : List CountedFile) where
   -- the rows of a key of another tally: that row
@@ -69,10 +58,9 @@ module _ (fs : List CountedFile) where
   in_other : (rs ss : List TallyRowModel) → IsTally fs rs → IsTally fs ss → (r : TallyRowModel) → In r rs → In r ss
   in_other rs ss is other r i =
       found_row r ss (rows_with r.key ss) other
-      (each_filled r rs (recursion_from_All (λ (x : TallyRowModel). 0 < x.sums.files) rs is.filled) i) refl
+      (of_each Filled r rs (recursion_from_All Filled rs is.filled) i) refl
       (other.sums r.key ∙ sym (is.sums r.key)
       ∙ ap sums_of_rows (own_rows r rs (rises row_key key_cmp key_cmp_total rs is.order) i) ∙ sums_of_one r)
 
   pub one_tally : (rs ss : List TallyRowModel) → IsTally fs rs → IsTally fs ss → rs ≡ ss
-  one_tally rs ss is other =
-      risen_same row_key key_cmp key_cmp_total rs ss is.order other.order (in_other rs ss is other) (in_other ss rs other is)
+  one_tally rs ss is other = grind (arith, common_steps, risen_same, key_cmp_total, in_other)

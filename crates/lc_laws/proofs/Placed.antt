@@ -1,5 +1,6 @@
 -- What the directories of a walk to which names lead give stands in its report.
-use Rattle.std.proofs.Common.{◌≡◌, ℕ, ◌<◌, true, List, [], length, refl, ap, None, Result, Ok, Err, inl, inr}
+use Rattle.std.proofs.Common.{arith, ◌≡◌, ℕ, ◌<◌, true, List, length, refl, ap, None, Result, Ok, Err, inl, inr}
+use Rattle.std.proofs.lemmas.Grind.{common_steps}
 use Rattle.std.specs.{List.Contains, Option.option_map_or}
 use Rattle.lc_census.specs.declared.line_count.Count.{Count}
 use Rattle.lc_paths.specs.Explanations.OpenDirs.{open_dir}
@@ -22,8 +23,7 @@ module _ (s : FiltersModel) (whole : s.only ≡ None) (top : JobModel) (t : Tree
   module _ (place : List (List ℕ)) (k : JobModel) (leads : LeadsTo s top t place k) (shallow : length place < depth) where
     -- what it gives is found
     found : (y : Found) → Gives s k (t place) y → In y xs
-    found y gives_it =
-        walk_by_place s depth top t y (record { place = place; shallow = shallow; job = k; leads = leads; gives = gives_it })
+    found y gives_it = grind (arith, common_steps, walk_by_place)
 
     -- its fault
     pub fault_there : (fault : FaultLineModel) → open_dir k (t place) ≡ Err fault → Contains r.faults.items fault
@@ -33,15 +33,7 @@ module _ (s : FiltersModel) (whole : s.only ≡ None) (top : JobModel) (t : Tree
 
     module _ (items : List Item) (inside : JobModel) (listed : IsListed k (t place) items inside) where
       entry_has : (item : Item) → In item items → (fate : Fate) → fate_of s inside item ≡ fate → HasEntry s k (t place) (name_of item) fate
-      entry_has item has fate is = record {
-        items = items;
-        inside = inside;
-        listed = listed;
-        item = item;
-        has = part_has s whole k.path item items has;
-        named = refl;
-        fate_is = is;
-      }
+      entry_has item has fate is = grind (arith, common_steps, part_has)
 
       -- an entry that is left out
       pub skipped_there : asked.left_out ≡ true → (item : Item) → In item items → (own : Kind) (reason : Reason)

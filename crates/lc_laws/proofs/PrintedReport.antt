@@ -1,5 +1,6 @@
 -- The members of a report that is printed as JSON with all its files.
-use Rattle.std.proofs.Common.{◌≡◌, ℕ, Bool, true, false, List, [], ◌∷◌, ◌++◌, map, codes, Option, None, refl, sym, subst}
+use Rattle.std.proofs.Common.{arith, ◌≡◌, ℕ, Bool, true, false, List, [], ◌∷◌, ◌++◌, map, codes, Option, None, sym, subst}
+use Rattle.std.proofs.lemmas.Grind.{common_steps}
 use Rattle.json.specs.Json.{Json}
 use Rattle.lc_formats.specs.{JsonLines.{line_members, line_object}, JsonSheets.json_of, JsonText.{Member, array_with, integer, object_with}}
 use Rattle.lc_level.specs.{FaultLines.FaultLineModel, Level.{FileLineModel, SkippedLineModel}}
@@ -7,7 +8,7 @@ use Rattle.lc_rows.specs.{Kinds.{fault_value, file_value, row_value, skipped_val
 use Rattle.lc_rows.specs.{SheetColumns.{fault_columns, number_columns, recorded_columns, recorded_skipped, row_columns}, Sheets.form_of}
 use Rattle.lc_rows.specs.{Sheets.{listed_files, sheet_of}, Views.view_of}
 use Rattle.lc_sheet.specs.{Sheets.{line_of, lines_of}, declared.form.Form.Form}
-use Rattle.lc_sheet.specs.declared.table_options.{TableOptions.TableOptions, Output.{Output, TheVariants.Text}}
+use Rattle.lc_sheet.specs.{declared.table_options.{TableOptions.TableOptions, Output.{Output, TheVariants.Text}}}
 use Rattle.lc_walk.specs.declared.{report.Report.Report, tally.sums.Sums.Sums}
 use Rattle.lc_laws.specs.ReadBack.{IsWholeJson}
 use Rattle.lc_sheet.specs.declared.table_options.Format.TheVariants as format
@@ -86,8 +87,7 @@ module _ (options : TableOptions) (attributes : List (List ℕ)) (r : Report) (r
       ≡ object_with (report_members (printed_parts (with_options o top listed) attributes r rows files) b r.entries r.skipped.items)
 
   whole_printed : (b : Bool) → IsPrinted (Text format.Json) None true b
-  whole_printed true = refl
-  whole_printed false = refl
+  whole_printed b = grind (arith, common_steps)
 
   pub sheet_printed : IsWholeJson options
       → json_of (sheet_of options attributes r (view_of options.top rows (listed_files options.files files)))

@@ -1,14 +1,14 @@
 -- What stands in the lists of a report, by what its walk found.
-use Rattle.std.proofs.{Common.{◌≡◌, ℕ, true, cond, List, [], refl, sym, ◌∙◌, ap, subst, inl, inr}, lemmas.List.Sorted.Contains-permutation}
-use Rattle.std.proofs.lemmas.List.Sorted.{IsPermutation-sym}
+use Rattle.std.proofs.{Common.{arith, ◌≡◌, ℕ, true, cond, List, [], refl, ap, subst, inl}, lemmas.Grind.common_steps}
+use Rattle.std.proofs.lemmas.List.Sorted.{Contains-permutation, IsPermutation-sym}
 use Rattle.std.specs.List.{Contains, Sorted.IsPermutation}
 use Rattle.lc_glob.specs.Path.{path_in}
 use Rattle.lc_level.specs.{FaultLines.FaultLineModel, Level.{skipped_below, file_below, FileLineModel, SkippedLineModel, Reason}}
 use Rattle.lc_level.specs.declared.fault_word.FaultWord.{FaultWord}
 use Rattle.lc_tree.specs.declared.entry.Kind.{Kind}
-use Rattle.lc_walk.specs.{Found.{Found, found_file, found_fault, found_directory, found_skipped}, ReportLines.{file_paths, fault_paths}}
-use Rattle.lc_walk.specs.{ReportLines.skipped_paths, FoundReports.{file_in, fault_in, skipped_lines_in, files_of, faults_of}}
-use Rattle.lc_walk.specs.{FoundReports.{skipped_lines_of, IsReportOf}, declared.{options.ReportLists.ReportLists, report.Report.Report}}
+use Rattle.lc_walk.specs.{Found.{Found, found_file, found_fault, found_skipped}, ReportLines.{file_paths, fault_paths, skipped_paths}}
+use Rattle.lc_walk.specs.FoundReports.{file_in, fault_in, skipped_lines_in, files_of, faults_of, skipped_lines_of, IsReportOf}
+use Rattle.lc_walk.specs.declared.{options.ReportLists.ReportLists, report.Report.Report}
 use Rattle.lc_walk.proofs.Elements.{In, is_in, contains, in_lists, of_lists, in_mapped, of_mapped}
 use Rattle.lc_laws.specs.ReportedPaths.{IsCounted, IsAtFault, IsSkipped}
 
@@ -29,26 +29,11 @@ pub record SkippedAt (xs : List Found) (path : List ℕ) (reason : Reason) : Typ
 
 counted_by : (xs : List Found) (path : List ℕ) (line : FileLineModel) → line.path ≡ path → (x : Found) → In x xs → In line (file_in x)
     → CountedAt xs path
-counted_by xs path line at (found_file directory f) has (inl e) =
-    record { directory = directory; file = f; found = has; path_is = sym (ap (λ (l : FileLineModel). l.path) e ∙ at) }
-counted_by xs path line at (found_file directory f) has (inr i) = absurd i
-counted_by xs path line at (found_fault p w) has i = absurd i
-counted_by xs path line at (found_directory p n) has i = absurd i
-counted_by xs path line at (found_skipped directory l) has i = absurd i
+counted_by xs path line at x has i = grind (arith, common_steps)
 
 skipped_by : (xs : List Found) (path : List ℕ) (kind : Kind) (reason : Reason) (x : Found) → In x xs
     → In (record { path = path; kind = kind; reason = reason }) (skipped_lines_in x) → SkippedAt xs path reason
-skipped_by xs path kind reason (found_file directory f) has i = absurd i
-skipped_by xs path kind reason (found_fault p w) has i = absurd i
-skipped_by xs path kind reason (found_directory p n) has i = absurd i
-skipped_by xs path kind reason (found_skipped directory l) has (inl e) = record {
-  directory = directory;
-  entry = l;
-  found = has;
-  path_is = sym (ap (λ (e : SkippedLineModel). e.path) e);
-  reason_is = ap (λ (e : SkippedLineModel). e.reason) e;
-}
-skipped_by xs path kind reason (found_skipped directory l) has (inr i) = absurd i
+skipped_by xs path kind reason x has i = grind (arith, common_steps)
 
 module _ (lists : ReportLists) (xs : List Found) (r : Report) (is : IsReportOf lists xs r) where
   module _ (asked : lists.files ≡ true) where

@@ -1,21 +1,21 @@
 -- What may be said of a path is said by some answers that the tree may give: those of the directories on the way, one at each depth.
-use Rattle.std.proofs.Common.{◌≡◌, ℕ, zero, suc, ◌+◌, Bool, true, false, cond, List, [], ◌∷◌, ◌++◌, length, refl, sym, ◌∙◌, ap, subst}
-use Rattle.std.proofs.{Common.{arith, Option, Some, None, Result, Ok, Err, length-append}, lemmas.Bool.and_parts}
+use Rattle.std.proofs.{lemmas.{Grind.common_steps, Bool.and_parts}, Common.{◌≡◌, ℕ, zero, suc, ◌+◌, Bool, true, false, cond, List, [], ◌∷◌}}
+use Rattle.std.proofs.Common.{◌++◌, length, refl, sym, ◌∙◌, ap, subst, arith, Option, Some, None, Result, Ok, Err, length-append}
 use Rattle.std.specs.List.{list_all, AllByRecursion}
 use Rattle.lc_paths.specs.Explanations.Explained.{Explanation, below, cited, said_for, said_beside, kind_asked, is_directory, OnTheWay}
 use Rattle.lc_paths.specs.Explanations.Explained.{said_of_none, OnEntering, IsSaid}
-use Rattle.lc_paths.specs.Explanations.OpenDirs.{OpenDirModel, DirStack, open_dir, MayEnter, kind_in}
+use Rattle.lc_paths.specs.Explanations.OpenDirs.{OpenDirModel, DirStack, MayEnter, kind_in}
 use Rattle.lc_paths.specs.declared.explaining.explain_options.ExplainOptions.{ExplainOptions}
 use Rattle.lc_paths.proofs.Explanations.PathSegments.{good_path}
 use Rattle.lc_glob.specs.Path.{segments_of, is_good_name}
 use Rattle.lc_level.specs.{Answers.{Answers, no_answers, Tree}, FaultLines.FaultLineModel, Job.JobModel, Level.{Reason, reason_for}}
-use Rattle.lc_level.specs.{Level.child_job, Filters.FiltersModel, TreeAnswers.MayAnswer, WellFormed.IsWellFormed}
+use Rattle.lc_level.specs.{Level.child_job, Filters.FiltersModel}
 use Rattle.lc_level.proofs.WellFormed.{IsGoodName, good_one}
 use Rattle.lc_text.specs.PathLines.{is_bad_path}
 use Rattle.lc_tree.specs.{Paths.names_of_path, Trees.{Listings, Contents}}
 use Rattle.lc_walk.proofs.Places.{names_of_path-path_in}
-use Rattle.lc_laws.specs.ByAnswers.{EntersBy, EntersGiven, top_asked, IsSaidByAnswers, SaidByAnswersLaw}
-use Rattle.lc_laws.proofs.{OneWay.{Entering, entered_listed}, SameWay.map_way}
+use Rattle.lc_laws.specs.ByAnswers.{EntersBy, EntersGiven, top_asked, IsSaidByAnswers, SaidByAnswersLaw, SaysEntering}
+use Rattle.lc_laws.proofs.{OneWay.{Entering, entered_listed}, SameWay.explained_on}
 
 -- ---- answers by depth
 
@@ -40,8 +40,7 @@ abbrev by_depth : List Answers → Tree
 by_depth rest place = answer_at rest (length place)
 
 by_depth_follows : (rest : List Answers) → Follows (by_depth rest) 0 rest
-by_depth_follows rest =
-    follows (by_depth rest) rest 0 (λ place n e. let same : length place ≡ n = omega (arith, e) in ap (answer_at rest) same)
+by_depth_follows rest = grind (arith, common_steps, follows)
 
 -- ---- the names of a good path
 
@@ -72,11 +71,7 @@ module _ (lists : List ℕ → Listings) (gives : List ℕ → Contents) (s : Fi
 
   entered_given : (u : Tree) (j : JobModel) (entered : Result OpenDirModel FaultLineModel) (enters : MayEnter lists gives j entered)
       → u (names_of_path j.path) ≡ enters.answers → EntersGiven lists gives u j entered
-  entered_given u j entered enters is = record {
-    may = subst (MayAnswer lists gives j.path) (sym is) enters.may;
-    well_formed = subst IsWellFormed (sym is) enters.well_formed;
-    enters = subst (λ (a : Answers). open_dir j a ≡ entered) (sym is) enters.gives_it;
-  }
+  entered_given u j entered enters is = grind (arith, common_steps)
 
   -- by the answers of a directory that is entered, and those below
   by_entering : (names : List (List ℕ)) → Found names → (stack : DirStack) (j : JobModel) (depth : ℕ)
@@ -119,37 +114,6 @@ module _ (lists : List ℕ → Listings) (gives : List ℕ → Contents) (s : Fi
   found (name ∷ []) good = λ stack here depth deep said. record { answers = []; so = λ u f. said }
   found (name ∷ next ∷ names) good = found_on name next names good.0 (found (next ∷ names) good.1)
 
--- ---- by any answers
-
-module _ (Enters Onto : Entering) (more : (j : JobModel) (entered : Result OpenDirModel FaultLineModel) → Enters j entered → Onto j entered)
-    (s : FiltersModel) (as_dir : Bool) (x : Explanation) where
-  abbrev Carried : List (List ℕ) → Type 0
-  Carried names =
-      (stack : DirStack) (here : OpenDirModel) → IsSaid Enters s stack here names as_dir x
-      → IsSaid Onto s stack here names as_dir x
-
-  abbrev SaidBelow : Entering → DirStack → JobModel → List (List ℕ) → Type 0
-  SaidBelow E stack j names = OnEntering E j x (λ here. IsSaid E s (stack ++ here ∷ []) here names as_dir x)
-
-  pub carry_below : (names : List (List ℕ)) → Carried names → (stack : DirStack) (j : JobModel) → SaidBelow Enters stack j names
-      → SaidBelow Onto stack j names
-  carry_below names rest stack j (Ok here, enters, said) = (Ok here, more j (Ok here) enters, rest (stack ++ here ∷ []) here said)
-  carry_below names rest stack j (Err fault, enters, said) = (Err fault, more j (Err fault) enters, said)
-
-  carry_on : (name next : List ℕ) (names : List (List ℕ)) → Carried (next ∷ names) → Carried (name ∷ next ∷ names)
-  carry_on name next names rest stack here =
-      map_way (reason_for s here.job name (kind_asked true (kind_in here.entries name))) (is_directory (kind_in here.entries name))
-      (λ reason. x ≡ said_for (cited s stack) below reason) (SaidBelow Enters stack (child_job here.job name) (next ∷ names))
-      (SaidBelow Onto stack (child_job here.job name) (next ∷ names))
-      (x ≡ said_beside s stack (child_job here.job name) (next ∷ names) as_dir)
-      (λ none there. carry_below (next ∷ names) rest stack (child_job here.job name))
-
-  -- what is said by the one is said by the other
-  pub carried : (names : List (List ℕ)) → Carried names
-  carried [] = λ stack here said. absurd said
-  carried (name ∷ []) = λ stack here said. said
-  carried (name ∷ next ∷ names) = carry_on name next names (carried (next ∷ names))
-
 -- ---- from the top
 
 module _ (lists : List ℕ → Listings) (gives : List ℕ → Contents) (q : ExplainOptions) (path : List ℕ) (as_dir : Bool) (x : Explanation)
@@ -160,27 +124,23 @@ module _ (lists : List ℕ → Listings) (gives : List ℕ → Contents) (q : Ex
     abbrev FromTopOr : Entering → Bool → Type 0
     FromTopOr E b = cond b (x ≡ said_of_none path) (FromTop E)
 
-    by_path : (b : Bool) → is_bad_path path ≡ b → FromTopOr (MayEnter lists gives) b → IsSaidByAnswers q lists gives path as_dir x
-    by_path true is said = record {
-      answers = by_depth [];
-      says = subst (FromTopOr (EntersBy (by_depth []))) (sym is) said;
-      given = subst (FromTopOr (EntersGiven lists gives (by_depth []))) (sym is) said;
+    -- what is said by entering with these answers is said by them
+    by_given : (u : Tree) → SaysEntering q (EntersGiven lists gives u) path as_dir x → IsSaidByAnswers q lists gives path as_dir x
+    by_given u given = record {
+      answers = u;
+      says = explained_on q.filters.now as_dir x (EntersGiven lists gives u) (EntersBy u) (λ k names. Unit {0})
+          (λ k name names holds entered e. e.enters) (λ k here name names holds enters there none. tt) path (λ name names are. tt) given;
+      given = given;
     }
+
+    by_path : (b : Bool) → is_bad_path path ≡ b → FromTopOr (MayEnter lists gives) b → IsSaidByAnswers q lists gives path as_dir x
+    by_path true is said = by_given (by_depth []) (subst (FromTopOr (EntersGiven lists gives (by_depth []))) (sym is) said)
     by_path false is said =
         let good = good_names (segments_of path) (good_path path is) in
         let r = by_entering lists gives q.filters.now as_dir x (segments_of path)
         (found lists gives q.filters.now as_dir x (segments_of path) good) [] (top_asked q) 0 refl said in
         let u : Tree = by_depth r.answers in
-        let given : FromTop (EntersGiven lists gives u) = r.so u (by_depth_follows r.answers) in
-        record {
-          answers = u;
-          says = subst (FromTopOr (EntersBy u)) (sym is)
-              (carry_below (EntersGiven lists gives u) (EntersBy u) (λ j entered e. e.enters) q.filters.now as_dir x
-              (segments_of path)
-              (carried (EntersGiven lists gives u) (EntersBy u) (λ j entered e. e.enters) q.filters.now as_dir x
-              (segments_of path)) [] (top_asked q) given);
-          given = subst (FromTopOr (EntersGiven lists gives u)) (sym is) given;
-        }
+        by_given u (subst (FromTopOr (EntersGiven lists gives u)) (sym is) (r.so u (by_depth_follows r.answers)))
 
 -- so is all that may be said
 pub said_by_answers : (lists : List ℕ → Listings) (gives : List ℕ → Contents) → SaidByAnswersLaw lists gives

@@ -1,9 +1,9 @@
 -- Of each path one thing is said.
-use Rattle.std.proofs.Common.{◌≡◌, ℕ, Bool, true, false, cond, List, [], ◌∷◌, ◌++◌, sym, ◌∙◌, subst, Option, Some, None, Result, Ok, Err}
-use Rattle.std.proofs.Common.{MatchResult}
-use Rattle.lc_paths.specs.Explanations.Explained.{Explanation, faulted, below, cited, said_for, said_beside, kind_asked, is_directory}
-use Rattle.lc_paths.specs.Explanations.Explained.{OnTheWay, said_of_none, OnEntering, IsSaid, IsExplained}
-use Rattle.lc_paths.specs.Explanations.OpenDirs.{OpenDirModel, DirStack, MayEnter, kind_in}
+use Rattle.std.proofs.Common.{arith, ◌≡◌, ℕ, Bool, true, false, cond, List, [], ◌∷◌, ◌++◌, sym, ◌∙◌, Option, Result}
+use Rattle.std.proofs.lemmas.Grind.{common_steps}
+use Rattle.lc_paths.specs.Explanations.Explained.{Explanation, below, cited, said_for, said_beside, kind_asked, is_directory, OnTheWay}
+use Rattle.lc_paths.specs.Explanations.Explained.{said_of_none, OnEntering, IsSaid, IsExplained}
+use Rattle.lc_paths.specs.Explanations.OpenDirs.{OpenDirModel, DirStack, kind_in}
 use Rattle.lc_glob.specs.Path.{segments_of}
 use Rattle.lc_level.specs.{FaultLines.FaultLineModel, Job.JobModel, Level.{Reason, reason_for, child_job}, Filters.FiltersModel}
 use Rattle.lc_level.specs.TopJob.{top_job}
@@ -16,23 +16,14 @@ use Rattle.lc_laws.proofs.{OneWay.{Entering, one_open_dir}, SameWay.said_by_way}
 on_one_way : (x y : Explanation) (reason : Option Reason) (is_there : Bool) (Skipped Other : Reason → Type 0)
     (Into Onto Beside Near : Type 0) → ((r : Reason) → Skipped r → Other r → x ≡ y) → (Into → Onto → x ≡ y) → (Beside → Near → x ≡ y)
     → OnTheWay reason is_there Skipped Into Beside → OnTheWay reason is_there Other Onto Near → x ≡ y
-on_one_way x y (Some r) is_there Skipped Other Into Onto Beside Near skipped_ones ins besides a b = skipped_ones r a b
-on_one_way x y None true Skipped Other Into Onto Beside Near skipped_ones ins besides a b = ins a b
-on_one_way x y None false Skipped Other Into Onto Beside Near skipped_ones ins besides a b = besides a b
+on_one_way x y reason is_there Skipped Other Into Onto Beside Near skipped_ones ins besides a b = grind (arith, common_steps)
 
 module _ (Enters : Entering) (same_entered : (j : JobModel) (a b : Result OpenDirModel FaultLineModel) → Enters j a → Enters j b → a ≡ b)
     (s : FiltersModel) (as_dir : Bool) (x y : Explanation) where
   once_entered : (j : JobModel) (IsSaidBelow Tells : OpenDirModel → Type 0)
       → ((here : OpenDirModel) → IsSaidBelow here → Tells here → x ≡ y)
       → OnEntering Enters j x IsSaidBelow → OnEntering Enters j y Tells → x ≡ y
-  once_entered j IsSaidBelow Tells same (Ok here, enters, said) (other, enters_too, told) =
-      same here said
-      (subst (λ (r : Result OpenDirModel FaultLineModel). MatchResult r Tells (λ fault. y ≡ faulted fault))
-      (same_entered j other (Ok here) enters_too enters) told)
-  once_entered j IsSaidBelow Tells same (Err fault, enters, said) (other, enters_too, told) =
-      said
-      ∙ sym (subst (λ (r : Result OpenDirModel FaultLineModel). MatchResult r Tells (λ f. y ≡ faulted f))
-      (same_entered j other (Err fault) enters_too enters) told)
+  once_entered j IsSaidBelow Tells same is so = grind (arith, common_steps)
 
   said_once : (names : List (List ℕ)) (stack : DirStack) (here : OpenDirModel) → IsSaid Enters s stack here names as_dir x
       → IsSaid Enters s stack here names as_dir y → x ≡ y
@@ -71,8 +62,4 @@ answers_one_explanation t u q path as_dir x y listings agree said told =
 
 -- and of what may be said, where the tree answers in one way
 pub one_explanation : (lists : List ℕ → Listings) (gives : List ℕ → Contents) → OneExplanationLaw lists gives
-one_explanation lists gives one q path as_dir x y said told =
-    explained_once (MayEnter lists gives)
-    (λ j a b one_way other. sym one_way.gives_it
-    ∙ one_open_dir lists gives one q.filters.now j one_way.answers other.answers one_way.may other.may ∙ other.gives_it)
-    q.filters.now as_dir x y path said told
+one_explanation lists gives = grind (arith, common_steps, explained_once, one_open_dir)

@@ -1,6 +1,6 @@
 -- What is said of a path by some answers is said by any others of which the same is read on the way.
-use Rattle.std.proofs.Common.{◌≡◌, ℕ, Bool, true, false, cond, List, [], ◌∷◌, ◌++◌, refl, sym, ◌∙◌, ap, subst, Option, Some, None, Result}
-use Rattle.std.proofs.Common.{Ok, Err, option_map, find, bytes_eq, append_assoc, inl, inr}
+use Rattle.std.proofs.Common.{arith, ◌≡◌, ℕ, Bool, true, false, cond, List, [], ◌∷◌, ◌++◌, refl, sym, ◌∙◌, ap, subst, Option, Some, None}
+use Rattle.std.proofs.{Common.{Result, Ok, Err, option_map, find, bytes_eq, append_assoc, inl, inr}, lemmas.Grind.common_steps}
 use Rattle.std.specs.Option.{is_none}
 use Rattle.lc_paths.specs.Explanations.Explained.{Explanation, below, cited, said_for, said_beside, kind_asked, is_directory, OnTheWay}
 use Rattle.lc_paths.specs.Explanations.Explained.{said_of_none, OnEntering, IsSaid, IsExplained}
@@ -12,7 +12,7 @@ use Rattle.lc_level.specs.{Job.JobModel, Level.{Reason, reason_for, child_job}, 
 use Rattle.lc_level.specs.{Filters.{FiltersModel, narrowed}, TopJob.top_job}
 use Rattle.lc_level.proofs.WellFormed.{same_bytes}
 use Rattle.lc_text.specs.PathLines.{is_bad_path}
-use Rattle.lc_tree.specs.{Listing.EntryModel, Paths.names_of_path, declared.entry.Kind.{Kind, TheVariants.{File, Dir, Other}}}
+use Rattle.lc_tree.specs.{Listing.EntryModel, Paths.names_of_path, declared.entry.Kind.{Kind, TheVariants.Dir}}
 use Rattle.lc_walk.specs.{FoundAt.{WalksInto, LeadsTo}, GivenAnswers.HasListings}
 use Rattle.lc_walk.proofs.{Elements.In, OneTree.leads_on}
 use Rattle.lc_laws.specs.ByAnswers.{EntersBy, read_after, read_of, what_is_read, AgreeOnWay}
@@ -52,11 +52,8 @@ kind_item (x ∷ xs) name e = at (kind_item xs name) (bytes_eq (name_of x) name)
     at rest false same f = inr (rest f)
 
 -- what is a directory is one of the tree
-pub dir_there : (o : Option Kind) → is_directory o ≡ true → o ≡ Some Dir
-dir_there None e = absurd (cc e)
-dir_there (Some File) e = absurd (cc e)
-dir_there (Some Dir) e = refl
-dir_there (Some (Other what)) e = absurd (cc e)
+dir_there : (o : Option Kind) → is_directory o ≡ true → o ≡ Some Dir
+dir_there o e = grind (arith, common_steps)
 
 -- where an explanation goes into a directory a walk of the whole tree does
 pub walked_into : (s : FiltersModel) (k : JobModel) (a : Answers) (here : OpenDirModel) → open_dir k a ≡ Ok here → (name : List ℕ)
@@ -75,57 +72,43 @@ walked_into s k a here is name kind none =
 -- ---- down the path
 
 -- what is said below a directory that is gone into may be said in another way
-pub map_way : (reason : Option Reason) (is_there : Bool) (Skipped : Reason → Type 0) (Into Onto Beside : Type 0)
+map_way : (reason : Option Reason) (is_there : Bool) (Skipped : Reason → Type 0) (Into Onto Beside : Type 0)
     → (reason ≡ None → is_there ≡ true → Into → Onto) → OnTheWay reason is_there Skipped Into Beside
     → OnTheWay reason is_there Skipped Onto Beside
-map_way (Some r) is_there Skipped Into Onto Beside on a = a
-map_way None true Skipped Into Onto Beside on a = on refl refl a
-map_way None false Skipped Into Onto Beside on a = a
+map_way reason is_there Skipped Into Onto Beside on a = grind (arith, common_steps)
 
-module _ (s : FiltersModel) (as_dir : Bool) (x : Explanation) (t : Tree) (path : List ℕ)
-    (Enters Onto : Entering)
-    (known : (place : List (List ℕ)) (name : List ℕ) (names : List (List ℕ)) (k : JobModel) → segments_of path ≡ place ++ name ∷ names
-    → LeadsTo (narrowed s None) (top_job s) t place k → (entered : Result OpenDirModel FaultLineModel) → Enters k entered
-    → Onto k entered × (entered ≡ open_dir k (t place))) where
-  -- what is said in a directory to which names lead, by the one, is said by the other
-  abbrev Carried : List (List ℕ) → Type 0
-  Carried names =
-      (place : List (List ℕ)) (stack : DirStack) (k : JobModel) (here : OpenDirModel) → LeadsTo (narrowed s None) (top_job s) t place k
-      → open_dir k (t place) ≡ Ok here → segments_of path ≡ place ++ names → IsSaid Enters s stack here names as_dir x
-      → IsSaid Onto s stack here names as_dir x
-
+-- what is said by one entering is said by another, where a relation of a job and the names below it leads to that
+module _ (s : FiltersModel) (as_dir : Bool) (x : Explanation) (Enters Onto : Entering) (Holds : JobModel → List (List ℕ) → Type 0)
+    (known : (k : JobModel) (name : List ℕ) (names : List (List ℕ)) → Holds k (name ∷ names)
+    → (entered : Result OpenDirModel FaultLineModel) → Enters k entered → Onto k entered)
+    (further : (k : JobModel) (here : OpenDirModel) (name : List ℕ) (names : List (List ℕ)) → Holds k (name ∷ names) → Enters k (Ok here)
+    → kind_in here.entries name ≡ Some Dir → reason_for s here.job name (kind_asked true (kind_in here.entries name)) ≡ None
+    → Holds (child_job here.job name) names) where
   abbrev SaidBelow : Entering → DirStack → JobModel → List (List ℕ) → Type 0
   SaidBelow E stack k names = OnEntering E k x (λ child. IsSaid E s (stack ++ child ∷ []) child names as_dir x)
 
-  enter_on : (next : List ℕ) (names : List (List ℕ)) → Carried (next ∷ names) → (place : List (List ℕ)) (stack : DirStack)
-      (k : JobModel) → LeadsTo (narrowed s None) (top_job s) t place k → segments_of path ≡ place ++ next ∷ names
-      → SaidBelow Enters stack k (next ∷ names) → SaidBelow Onto stack k (next ∷ names)
-  enter_on next names rest place stack k leads cut (Ok child, enters, said) =
-      let e = known place next names k cut leads (Ok child) enters in
-      (Ok child, e.0, rest place (stack ++ child ∷ []) k child leads (sym e.1) cut said)
-  enter_on next names rest place stack k leads cut (Err fault, enters, said) =
-      (Err fault, (known place next names k cut leads (Err fault) enters).0, said)
+  carried : (name : List ℕ) (names : List (List ℕ)) (stack : DirStack) (k : JobModel) → Holds k (name ∷ names)
+      → SaidBelow Enters stack k (name ∷ names) → SaidBelow Onto stack k (name ∷ names)
+  carried name [] stack k holds (entered, enters, said) = (entered, known k name [] holds entered enters, said)
+  carried name (next ∷ names) stack k holds (Err fault, enters, said) =
+      (Err fault, known k name (next ∷ names) holds (Err fault) enters, said)
+  carried name (next ∷ names) stack k holds (Ok here, enters, said) = (
+    Ok here,
+    known k name (next ∷ names) holds (Ok here) enters,
+    map_way (reason_for s here.job name (kind_asked true (kind_in here.entries name))) (is_directory (kind_in here.entries name))
+        (λ reason. x ≡ said_for (cited s (stack ++ here ∷ [])) below reason)
+        (SaidBelow Enters (stack ++ here ∷ []) (child_job here.job name) (next ∷ names))
+        (SaidBelow Onto (stack ++ here ∷ []) (child_job here.job name) (next ∷ names))
+        (x ≡ said_beside s (stack ++ here ∷ []) (child_job here.job name) (next ∷ names) as_dir)
+        (λ none there. carried next names (stack ++ here ∷ []) (child_job here.job name)
+        (further k here name (next ∷ names) holds enters (dir_there (kind_in here.entries name) there) none)) said,
+  )
 
-  carry_on : (name next : List ℕ) (names : List (List ℕ)) → Carried (next ∷ names) → Carried (name ∷ next ∷ names)
-  carry_on name next names rest place stack k here leads is cut =
-      map_way (reason_for s here.job name (kind_asked true (kind_in here.entries name))) (is_directory (kind_in here.entries name))
-      (λ reason. x ≡ said_for (cited s stack) below reason) (SaidBelow Enters stack (child_job here.job name) (next ∷ names))
-      (SaidBelow Onto stack (child_job here.job name) (next ∷ names))
-      (x ≡ said_beside s stack (child_job here.job name) (next ∷ names) as_dir)
-      (λ none there.
-      let leaves = walked_into s k (t place) here is name (dir_there (kind_in here.entries name) there) none in
-      enter_on next names rest (place ++ name ∷ []) stack (child_job here.job name)
-      (leads_on (narrowed s None) place (top_job s) k here.job name t leads leaves)
-      (cut ∙ sym (append_assoc place (name ∷ []) (next ∷ names))))
-
-  carried : (names : List (List ℕ)) → Carried names
-  carried [] = λ place stack k here leads is cut said. absurd said
-  carried (name ∷ []) = λ place stack k here leads is cut said. said
-  carried (name ∷ next ∷ names) = carry_on name next names (carried (next ∷ names))
-
-  -- so it is of the path
-  pub explained_on : IsExplained Enters s path as_dir x → IsExplained Onto s path as_dir x
-  explained_on = at (is_bad_path path)
+  -- so it is of a path
+  pub explained_on : (path : List ℕ)
+      → ((name : List ℕ) (names : List (List ℕ)) → segments_of path ≡ name ∷ names → Holds (top_job s) (name ∷ names))
+      → IsExplained Enters s path as_dir x → IsExplained Onto s path as_dir x
+  explained_on path begins = at (is_bad_path path)
     where
       at : (b : Bool) → cond b (x ≡ said_of_none path) (SaidBelow Enters [] (top_job s) (segments_of path))
           → cond b (x ≡ said_of_none path) (SaidBelow Onto [] (top_job s) (segments_of path))
@@ -133,8 +116,7 @@ module _ (s : FiltersModel) (as_dir : Bool) (x : Explanation) (t : Tree) (path :
       at false e =
           let h = has_first path in
           subst (SaidBelow Onto [] (top_job s)) (sym h.are)
-          (enter_on h.first h.others (carried (h.first ∷ h.others)) [] [] (top_job s) refl h.are
-          (subst (SaidBelow Enters [] (top_job s)) h.are e))
+          (carried h.first h.others [] (top_job s) (begins h.first h.others h.are) (subst (SaidBelow Enters [] (top_job s)) h.are e))
 
 -- ---- two trees of answers
 
@@ -143,14 +125,27 @@ pub said_by_way : (s : FiltersModel) (as_dir : Bool) (x : Explanation) (t : Tree
     → HasListings (narrowed s None) (top_job s) t → (u : Tree) (path : List ℕ) → AgreeOnWay (narrowed s None) (top_job s) t u path
     → IsExplained (EntersBy u) s path as_dir x → IsExplained (EntersBy t) s path as_dir x
 said_by_way s as_dir x t listings u path agree =
-    explained_on s as_dir x t path (EntersBy u) (EntersBy t)
-    (λ place name names k cut leads entered enters.
-    let there : names_of_path k.path ≡ place =
-    place_names (narrowed s None) place (top_job s) k t listings leads in
-    let same : entered ≡ open_dir k (t place) =
-    sym enters ∙ ap (λ p. open_dir k (u p)) there ∙ as_read k (u place)
-    ∙ ap (opened k) (sym (agree place name names k cut leads)) ∙ sym (as_read k (t place)) in
-    (ap (λ p. open_dir k (t p)) there ∙ sym same, same))
+    explained_on s as_dir x (EntersBy u) (EntersBy t) Way
+    (λ k name names way entered enters. ap (λ p. open_dir k (t p)) (led k (name ∷ names) way) ∙ sym (same k name names way entered enters))
+    (λ k here name names way enters there none.
+    let leaves = walked_into s k (t way.0) here (sym (same k name names way (Ok here) enters)) name there none in (
+      way.0 ++ name ∷ [],
+      leads_on (narrowed s None) way.0 (top_job s) k here.job name t way.1 leaves,
+      way.2 ∙ sym (append_assoc way.0 (name ∷ []) names),
+    )) path (λ name names are. ([], refl, are))
+  where
+    -- names of the path lead to the job
+    Way : JobModel → List (List ℕ) → Type 0
+    Way k names = (place : List (List ℕ)) × LeadsTo (narrowed s None) (top_job s) t place k × (segments_of path ≡ place ++ names)
+
+    led : (k : JobModel) (names : List (List ℕ)) (way : Way k names) → names_of_path k.path ≡ way.0
+    led k names way = place_names (narrowed s None) way.0 (top_job s) k t listings way.1
+
+    same : (k : JobModel) (name : List ℕ) (names : List (List ℕ)) (way : Way k (name ∷ names))
+        → (entered : Result OpenDirModel FaultLineModel) → EntersBy u k entered → entered ≡ open_dir k (t way.0)
+    same k name names way entered enters =
+        sym enters ∙ ap (λ p. open_dir k (u p)) (led k (name ∷ names) way) ∙ as_read k (u way.0)
+        ∙ ap (opened k) (sym (agree way.0 name names k way.2 way.1)) ∙ sym (as_read k (t way.0))
 
 -- so it is where no path alone is asked for
 pub said_by_other : (s : FiltersModel) → s.only ≡ None → (as_dir : Bool) (x : Explanation) (t : Tree) → HasListings s (top_job s) t

@@ -1,33 +1,19 @@
 -- Shares are printed as no more than 100.0 per cent.
-use Rattle.std.proofs.{Common.{ℕ, List, refl}, lemmas.List.Elements.All-weaker}
-use Rattle.std.specs.List.{All}
+use Rattle.std.proofs.{Common.{arith, ℕ, List, refl}, lemmas.Grind.common_steps}
 use Rattle.lc_formats.proofs.ShareLawProofs.{parts_law}
 use Rattle.lc_formats.specs.Shares.{rounded_parts}
 use Rattle.lc_rows.proofs.WalkedSheets.{walked_sheet_law}
 use Rattle.lc_rows.specs.SheetLaws.{IsSectionWithin, IsWithin}
-use Rattle.lc_sheet.specs.{Sheets.SectionModel, Values.{ValueModel, missing, summed, blank, word, flag, name, path, number, share, bar}}
-use Rattle.lc_sheet.specs.Values.{difference, growth}
+use Rattle.lc_sheet.specs.{Sheets.SectionModel, Values.{ValueModel, share}}
 use Rattle.lc_tree.specs.Trees.{Listings, Contents}
 use Rattle.lc_laws.specs.PrintedShares.{AreSharesWithin, IsPrintedWithin, PrintedSharesLaw}
 
 value_printed : (v : ValueModel) → IsWithin v → IsPrintedWithin v
-value_printed missing within = tt
-value_printed summed within = tt
-value_printed blank within = tt
-value_printed (word w) within = tt
-value_printed (flag is_set) within = tt
-value_printed (name n) within = tt
-value_printed (path p) within = tt
-value_printed (number n) within = tt
 value_printed (share part whole) within = (rounded_parts 1000 part whole, parts_law 1000 part whole within, refl)
-value_printed (bar part whole) within = tt
-value_printed (difference old new) within = tt
-value_printed (growth old new) within = tt
+value_printed v within = tt
 
 section_printed : (section : SectionModel) → IsSectionWithin section → AreSharesWithin section
-section_printed section within =
-    All-weaker (λ (line : List ValueModel). All IsWithin line) (λ (line : List ValueModel). All IsPrintedWithin line)
-    (λ line all. All-weaker IsWithin IsPrintedWithin value_printed line all) section.lines within
+section_printed section within = grind (arith, common_steps, value_printed)
 
 pub printed_shares_law : (lists : List ℕ → Listings) (gives : List ℕ → Contents) → PrintedSharesLaw lists gives
 printed_shares_law lists gives o options attributes r s w listed sheet =

@@ -1,15 +1,12 @@
 -- What a text as CSV shows of a report has columns, and a value in each.
-use Rattle.std.proofs.Common.{◌≡◌, ℕ, ◌+◌, ◌<◌, Bool, true, false, if◌then◌else◌, List, [], ◌++◌, length, codes, Option, Some, None, ap}
-use Rattle.std.proofs.{Common.{arith, length-append, unwrap_or, ◌∙◌}, lemmas.List.{length-map, Elements.All-map}}
+use Rattle.std.proofs.{lemmas.{Grind.common_steps, List.{length-map, Elements.All-map}}, Common.{◌≡◌, ℕ, ◌<◌, Bool, true, false}}
+use Rattle.std.proofs.Common.{if◌then◌else◌, List, [], length, codes, Option, Some, None, arith, length-append, unwrap_or}
 use Rattle.std.specs.List.{slice_index_or}
 use Rattle.lc_sheet.specs.{Sheets.{line_of, sheet_format}, Values.ValueModel, declared.column.Column.Column}
-use Rattle.lc_sheet.specs.declared.table_options.{Columns.Columns, Format.{Format, TheVariants.{Tsv, Table, Json, Csv, Markdown}}}
-use Rattle.lc_sheet.specs.declared.table_options.TableOptions.{TableOptions}
+use Rattle.lc_sheet.specs.declared.table_options.{Columns.Columns, Format.Format, TableOptions.TableOptions}
 use Rattle.lc_walk.specs.declared.report.Report.{Report}
-use Rattle.lc_rows.specs.{Kinds.{file_value, row_value, skipped_value}, SheetColumns.{file_columns, keeps_columns, key_columns}}
-use Rattle.lc_rows.specs.{SheetColumns.{number_columns, row_columns, share_columns, skipped_columns}, Sheets.{form_of, list_of, section_of}}
-use Rattle.lc_rows.specs.Sheets.{with_attributes}
-use Rattle.lc_rows.specs.{Sheets.sheet_of, Views.ViewModel}
+use Rattle.lc_rows.specs.{Kinds.{file_value, row_value, skipped_value}, SheetColumns.{file_columns, row_columns, skipped_columns}}
+use Rattle.lc_rows.specs.{Sheets.{form_of, list_of, section_of, with_attributes, sheet_of}, Views.ViewModel}
 use Rattle.lc_formats.specs.CsvLaws.{HasColumns}
 use Rattle.lc_laws.specs.SheetReadable.{SheetRecordsLaw}
 
@@ -23,31 +20,14 @@ made_with tag attributes value columns lines some = record {
       (λ k d within. length-map columns (value (slice_index_or lines k d)));
 }
 
-more_than : (columns : List Column) (m n : ℕ) → length columns ≡ m + 4 + n → 0 < length columns
-more_than columns m n e = omega arith
-
 row_columns_some : (options : TableOptions) → 0 < length (row_columns options)
-row_columns_some options =
-    let keys = key_columns (keeps_columns (sheet_format options.output)) options.by in
-    let shares : List Column = if options.share then share_columns (sheet_format options.output) else [] in
-    let e1 : length (keys ++ number_columns ++ shares) ≡ length (keys ++ number_columns) + length shares
-    = length-append (keys ++ number_columns) shares in
-    let e2 : length (keys ++ number_columns) ≡ length keys + 4 = length-append keys number_columns in
-    more_than (row_columns options) (length keys) (length shares) (e1 ∙ ap (λ n. n + length shares) e2)
+row_columns_some options = grind (arith, common_steps, length-append)
 
 skipped_columns_some : (format : Format) → 0 < length (skipped_columns format)
-skipped_columns_some Tsv = omega arith
-skipped_columns_some Table = omega arith
-skipped_columns_some Json = omega arith
-skipped_columns_some Csv = omega arith
-skipped_columns_some Markdown = omega arith
+skipped_columns_some format = grind (arith, common_steps)
 
 file_columns_some : (format : Format) (by : Columns) → 0 < length (file_columns format by)
-file_columns_some Tsv by = omega arith
-file_columns_some Table by = omega arith
-file_columns_some Json by = omega arith
-file_columns_some Csv by = omega arith
-file_columns_some Markdown by = omega arith
+file_columns_some format by = grind (arith, common_steps)
 
 module _ (options : TableOptions) (attributes : List (List ℕ)) (r : Report) (v : ViewModel) where
   at : (files left_out : Bool)

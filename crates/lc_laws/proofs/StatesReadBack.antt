@@ -1,16 +1,16 @@
 -- The states of attributes that were printed, as they are read.
-use Rattle.std.proofs.Common.{◌≡◌, ◌≢◌, ◌∙◌, ◌+◌, ◌<◌, ◌⊎◌, inl, inr, ℕ, suc, Bool, true, false, ◌||◌, List, [], ◌∷◌, ◌++◌, cond, codes}
-use Rattle.std.proofs.Common.{get_or, unwrap_or, refl, sym, ap, ap₂, subst, length, map, arith, append-nil, length-append, zero-add}
-use Rattle.std.proofs.lemmas.{Bool.false_from_ne_true, List.{Elements.recursion_from_All, append_cancel_right}, Option.unwrap_or-slice_get}
-use Rattle.std.proofs.lemmas.Slice.Eq.{bytes_eq-Decides}
+use Rattle.std.proofs.{lemmas.{Grind.common_steps, Bool.false_from_ne_true, List.{Elements.recursion_from_All, append_cancel_right}}}
+use Rattle.std.proofs.{lemmas.{Option.unwrap_or-slice_get, Slice.Eq.bytes_eq-Decides}, Common.{◌≡◌, ◌≢◌, ◌∙◌, ◌+◌, ◌<◌, ◌⊎◌, inl, inr, ℕ}}
+use Rattle.std.proofs.Common.{suc, Bool, true, false, ◌||◌, List, [], ◌∷◌, ◌++◌, codes, get_or, unwrap_or, refl, sym, ap, ap₂, subst}
+use Rattle.std.proofs.Common.{length, map, arith, append-nil, length-append, zero-add}
 use Rattle.std.specs.{List.{AllByRecursion, range_with_len, slice_get}, Str.{bytes_eq, is_utf8}}
-use Rattle.json.specs.Json.{Json, null, boolean, string}
+use Rattle.json.specs.Json.{Json}
 use Rattle.lc_formats.specs.{JsonLines.{line_members, value_members}, JsonText.Member}
 use Rattle.lc_reading.specs.{Members.values_at, States.{AreBytesOf, HasStates, bytes_name, state_json}}
 use Rattle.lc_rows.specs.Kinds.{state_at, state_value}
 use Rattle.lc_rules.specs.Attributes.{StateModel}
 use Rattle.lc_sheet.specs.{Values.ValueModel, declared.column.Column.Column}
-use Rattle.lc_laws.proofs.{JsonMembers.{EachByte, list_of_bytes, lists_if, same_bytes, text_of_bytes, texts_if, values_append}}
+use Rattle.lc_laws.proofs.JsonMembers.{EachByte, list_of_bytes, lists_if, same_bytes, text_of_bytes, texts_if, values_append}
 use Rattle.lc_laws.proofs.PrintedMembers.{is_name, value_apart}
 use Rattle.lc_laws.specs.{ReadBack.{AreApart, AreTwo}, SheetReadable.HasByteValue}
 use Rattle.lc_rules.specs.Attributes as state
@@ -32,61 +32,28 @@ state_lists other = []
 abbrev ReadsState : List Json → List Json → StateModel → Type 0
 ReadsState texts lists s = ((texts ≡ state_json s ∷ []) × (lists ≡ [])) ⊎ ((texts ≡ []) × AreBytesOf lists s)
 
-abbrev state_of : Json → StateModel
-state_of (boolean true) = state.set
-state_of (boolean false) = state.unset
-state_of (string bytes) = state.value bytes
-state_of other = state.unspecified
-
-own_state : (s : StateModel) → state_of (state_json s) ≡ s
-own_state state.set = refl
-own_state state.unset = refl
-own_state (state.value bytes) = refl
-own_state state.unspecified = refl
-
 same_json : (s t : StateModel) → state_json s ∷ [] ≡ state_json t ∷ [] → t ≡ s
-same_json s t e =
-    let one : state_json s ≡ state_json t = cc in
-    sym (own_state t) ∙ ap state_of (sym one) ∙ own_state s
-
-something : (j : Json) → j ∷ [] ≡ [] → ⊥
-something j e = absurd (cc)
+same_json s t e = grind (arith, common_steps)
 
 plain_read : (s t : StateModel) → ReadsState (state_json s ∷ []) [] t → t ≡ s
-plain_read s t (inl (text, none)) = same_json s t text
-plain_read s t (inr (none, list)) = absurd (something (state_json s) none)
+plain_read s t is = grind (arith, common_steps, same_json)
 
 value_read : (b : Bool) (bytes : List ℕ) (t : StateModel) → EachByte bytes → HasByteValue t
     → ReadsState (texts_if b bytes) (lists_if b bytes) t → t ≡ state.value bytes
 value_read true bytes t small fits (inl (text, none)) = same_json (state.value bytes) t text
-value_read true bytes t small fits (inr (none, list)) = absurd (something (string bytes) none)
-value_read false bytes t small fits (inl (text, none)) = absurd (something (state_json t) (sym text))
+value_read true bytes t small fits (inr (none, list)) = absurd (cc none)
+value_read false bytes t small fits (inl (text, none)) = absurd (cc text)
 value_read false bytes (state.value more) small fits (inr (none, list)) =
     ap state.value (same_bytes false bytes more small (recursion_from_All (λ b. b < 256) more fits) (inr (none, list)))
-value_read false bytes state.set small fits (inr (none, list)) = absurd list
-value_read false bytes state.unset small fits (inr (none, list)) = absurd list
-value_read false bytes state.unspecified small fits (inr (none, list)) = absurd list
+value_read false bytes t small fits (inr (none, list)) = absurd list
 
 state_read : (s t : StateModel) → HasByteValue s → HasByteValue t → ReadsState (state_texts s) (state_lists s) t → t ≡ s
-state_read (state.value bytes) t s_fits t_fits is =
-    value_read (is_utf8 bytes) bytes t (recursion_from_All (λ b. b < 256) bytes s_fits) t_fits is
-state_read state.set t s_fits t_fits is = plain_read state.set t is
-state_read state.unset t s_fits t_fits is = plain_read state.unset t is
-state_read state.unspecified t s_fits t_fits is = plain_read state.unspecified t is
+state_read s t s_fits t_fits is = grind (arith, common_steps, value_read, recursion_from_All, plain_read)
 
 -- ---- names
 
-equal : (n : List ℕ) → bytes_eq n n ≡ true
-equal n = (bytes_eq-Decides n n).1 refl
-
 differ : (m n : List ℕ) → m ≢ n → bytes_eq m n ≡ false
 differ m n apart = false_from_ne_true _ (λ e. apart ((bytes_eq-Decides m n).0 e))
-
-longer : (n : List ℕ) → bytes_name n ≢ n
-longer n e =
-    let size : length (n ++ codes "_bytes") ≡ length n + 6 = length-append n (codes "_bytes") in
-    let same : length (n ++ codes "_bytes") ≡ length n = ap length e in
-    absurd (omega arith)
 
 neither : (n w : List ℕ) → w ≢ n → bytes_name w ≢ n → is_name n w ≡ false
 neither n w own listed = ap₂ (λ a b. a || b) (differ w n own) (differ (bytes_name w) n listed)
@@ -120,30 +87,14 @@ pub states_apart : (n : List ℕ) (ns : List (List ℕ)) (ss : List StateModel) 
     → values_at n (state_members ns ss) ≡ []
 states_apart n [] ss apart = refl
 states_apart n (m ∷ ns) [] apart = refl
-states_apart n (m ∷ ns) (s ∷ ss) apart =
-    values_append n (value_members m (state_value s)) (state_members ns ss)
-    ∙ ap₂ (λ (a b : List Json). a ++ b) (value_apart n m apart.0 (state_value s)) (states_apart n ns ss apart.1)
-
-ended : (bytes : List ℕ) → bytes ++ [] ++ [] ≡ bytes
-ended bytes = append-nil (bytes ++ []) ∙ append-nil bytes
+states_apart n (m ∷ ns) (s ∷ ss) apart = grind (arith, common_steps, values_append, value_apart, states_apart n ns ss apart.1)
 
 -- what the member of a state has under its names
 own_text : (n : List ℕ) (s : StateModel) → values_at n (value_members n (state_value s)) ≡ state_texts s
-own_text n state.set = ap (λ b. cond b (boolean true ∷ []) []) (equal n)
-own_text n state.unset = ap (λ b. cond b (boolean false ∷ []) []) (equal n)
-own_text n state.unspecified = ap (λ b. cond b (null ∷ []) []) (equal n)
-own_text n (state.value bytes) =
-    text_of_bytes n (equal n) (differ (bytes_name n) n (longer n)) (is_utf8 (bytes ++ [] ++ [])) (bytes ++ [] ++ [])
-    ∙ ap (λ (b : List ℕ). texts_if (is_utf8 b) b) (ended bytes)
+own_text n s = grind (arith, common_steps, text_of_bytes, bytes_eq-Decides, differ, length-append, texts_if, append-nil)
 
 own_list : (n : List ℕ) (s : StateModel) → values_at (bytes_name n) (value_members n (state_value s)) ≡ state_lists s
-own_list n state.set = ap (λ b. cond b (boolean true ∷ []) []) (differ n (bytes_name n) (λ e. longer n (sym e)))
-own_list n state.unset = ap (λ b. cond b (boolean false ∷ []) []) (differ n (bytes_name n) (λ e. longer n (sym e)))
-own_list n state.unspecified = ap (λ b. cond b (null ∷ []) []) (differ n (bytes_name n) (λ e. longer n (sym e)))
-own_list n (state.value bytes) =
-    list_of_bytes n (equal (bytes_name n)) (differ n (bytes_name n) (λ e. longer n (sym e))) (is_utf8 (bytes ++ [] ++ []))
-    (bytes ++ [] ++ [])
-    ∙ ap (λ (b : List ℕ). lists_if (is_utf8 b) b) (ended bytes)
+own_list n s = grind (arith, common_steps, list_of_bytes, bytes_eq-Decides, differ, length-append, lists_if, append-nil)
 
 -- ---- all states
 
@@ -154,56 +105,43 @@ AreUnder ms own ns =
 
 without_first : (k n : List ℕ) (s : StateModel) (rest : List Member) → is_name k n ≡ false
     → values_at k (value_members n (state_value s) ++ rest) ≡ values_at k rest
-without_first k n s rest apart =
-    values_append k (value_members n (state_value s)) rest
-    ∙ ap (λ (js : List Json). js ++ values_at k rest) (value_apart k n apart (state_value s))
+without_first k n s rest apart = grind (arith, common_steps, values_append, value_apart)
 
 others_under : (ms : List Member) (n : List ℕ) (s : StateModel) (rest : List Member) (ns : List (List ℕ))
     → AllByRecursion (AreTwo n) ns → AreUnder ms (value_members n (state_value s) ++ rest) ns → AreUnder ms rest ns
 others_under ms n s rest [] two under = tt
-others_under ms n s rest (m ∷ ns) two under = (
-  (
-    under.0.0 ∙ without_first m n s rest (second_named n m two.0),
-    under.0.1 ∙ without_first (bytes_name m) n s rest (second_listed n m two.0),
-  ),
-  others_under ms n s rest ns two.1 under.1,
-)
+others_under ms n s rest (m ∷ ns) two under =
+    grind (arith, common_steps, without_first, second_named, second_listed, others_under ms n s rest ns two.1 under.1)
 
-firsts_named : (n : List ℕ) (ns : List (List ℕ)) → AllByRecursion (AreTwo n) ns → AllByRecursion (λ m. is_name n m ≡ false) ns
-firsts_named n [] two = tt
-firsts_named n (m ∷ ns) two = (first_named n m two.0, firsts_named n ns two.1)
+firsts_apart : (n k : List ℕ) → ((m : List ℕ) → AreTwo n m → is_name k m ≡ false) → (ns : List (List ℕ))
+    → AllByRecursion (AreTwo n) ns → AllByRecursion (λ m. is_name k m ≡ false) ns
+firsts_apart n k each [] two = tt
+firsts_apart n k each (m ∷ ns) two = (each m two.0, firsts_apart n k each ns two.1)
 
-firsts_listed : (n : List ℕ) (ns : List (List ℕ)) → AllByRecursion (AreTwo n) ns
-    → AllByRecursion (λ m. is_name (bytes_name n) m ≡ false) ns
-firsts_listed n [] two = tt
-firsts_listed n (m ∷ ns) two = (first_listed n m two.0, firsts_listed n ns two.1)
+-- what is under a name that no other attribute has
+first_under : (k n : List ℕ) (s : StateModel) (ns : List (List ℕ)) (ss : List StateModel) → AllByRecursion (λ m. is_name k m ≡ false) ns
+    → values_at k (value_members n (state_value s) ++ state_members ns ss) ≡ values_at k (value_members n (state_value s))
+first_under k n s ns ss apart = grind (arith, common_steps, values_append, states_apart, append-nil)
 
 -- the states that are read of members that have these states are these
 pub states_read : (ms : List Member) (ns : List (List ℕ)) (ss ts : List StateModel) → AreApart ns → AreUnder ms (state_members ns ss) ns
     → length ss ≡ length ns → AllByRecursion HasByteValue ss → AllByRecursion HasByteValue ts → HasStates ms ns ts → ts ≡ ss
 states_read ms [] [] [] apart under long s_fits t_fits has = refl
 states_read ms [] [] (t ∷ ts) apart under long s_fits t_fits has = absurd has
-states_read ms [] (s ∷ ss) ts apart under long s_fits t_fits has = absurd (omega arith)
-states_read ms (n ∷ ns) [] ts apart under long s_fits t_fits has = absurd (omega arith)
 states_read ms (n ∷ ns) (s ∷ ss) [] apart under long s_fits t_fits has = absurd has
 states_read ms (n ∷ ns) (s ∷ ss) (t ∷ ts) apart under long s_fits t_fits has =
-    let own : List Member = value_members n (state_value s) in
-    let rest : List Member = state_members ns ss in
     let text : values_at n ms ≡ state_texts s =
-    under.0.0 ∙ values_append n own rest
-    ∙ ap₂ (λ (a b : List Json). a ++ b) (own_text n s) (states_apart n ns ss (firsts_named n ns apart.1))
-    ∙ append-nil (state_texts s) in
+    under.0.0 ∙ first_under n n s ns ss (firsts_apart n n (first_named n) ns apart.1) ∙ own_text n s in
     let list : values_at (bytes_name n) ms ≡ state_lists s =
-    under.0.1 ∙ values_append (bytes_name n) own rest
-    ∙ ap₂ (λ (a b : List Json). a ++ b) (own_list n s) (states_apart (bytes_name n) ns ss (firsts_listed n ns apart.1))
-    ∙ append-nil (state_lists s) in
+    under.0.1 ∙ first_under (bytes_name n) n s ns ss (firsts_apart n (bytes_name n) (first_listed n) ns apart.1) ∙ own_list n s in
     let first : t ≡ s =
     state_read s t s_fits.0 t_fits.0
     (subst (λ (js : List Json). ReadsState (state_texts s) js t) list (subst (λ (js : List Json). ReadsState js (values_at
     (bytes_name n) ms) t) text has.0)) in
     let others : ts ≡ ss =
-    states_read ms ns ss ts apart.2 (others_under ms n s rest ns apart.1 under.1) (omega arith) s_fits.1 t_fits.1 has.1 in
+    states_read ms ns ss ts apart.2 (others_under ms n s (state_members ns ss) ns apart.1 under.1) (omega arith) s_fits.1 t_fits.1 has.1 in
     λ i. first i ∷ others i
+states_read ms ns ss ts apart under long s_fits t_fits has = absurd (omega arith)
 
 -- ---- the columns of states
 
@@ -233,6 +171,4 @@ module _ (attributes : List (List ℕ)) (asked : List StateModel) (value : Colum
   pub all_places : length asked ≡ length attributes
       → line_members attributes (place_columns 0 (length attributes)) (map value (place_columns 0 (length attributes)))
       ≡ state_members attributes asked
-  all_places long =
-      places_from 0 attributes asked long (λ i. ap (λ j. get_or attributes j []) (zero-add i))
-      (λ i. ap (λ j. get_or asked j state.unspecified) (zero-add i))
+  all_places long = grind (arith, common_steps, places_from, zero-add)

@@ -1,5 +1,5 @@
 -- The items that take part in a walk of a whole tree.
-use Rattle.std.proofs.Common.{◌≡◌, ℕ, List, None, sym, ◌∙◌, ap, subst}
+use Rattle.std.proofs.{Common.{arith, ◌≡◌, ℕ, List, None}, lemmas.Grind.common_steps}
 use Rattle.std.specs.List.{Contains}
 use Rattle.lc_level.specs.{Answers.Item, Narrowing.part_of, Filters.FiltersModel}
 use Rattle.lc_level.proofs.AskedPaths.{all_take_part}
@@ -12,5 +12,4 @@ in_part s d item items has = (in_filter _ item items (is_in item (part_of s.only
 -- where no path is asked for each item takes part
 pub part_has : (s : FiltersModel) → s.only ≡ None → (d : List ℕ) (item : Item) (items : List Item) → In item items
     → Contains (part_of s.only d items) item
-part_has s whole d item items has =
-    subst (λ xs. Contains xs item) (sym (ap (λ only. part_of only d items) whole ∙ all_take_part d items)) (contains item items has)
+part_has s whole d item items has = grind (arith, common_steps, all_take_part, contains)

@@ -1,45 +1,31 @@
 -- A JSON object with another text after it: its tokens, and what is left.
-use Rattle.std.proofs.Common.{◌≡◌, ◌∙◌, ℕ, Bool, true, false, List, [], ◌∷◌, ◌++◌, Some, refl, sym, ap, append_assoc, append-nil, arith}
-use Rattle.json.specs.Json.{Items, Json, Members, array, boolean as boolean_of, document, item, member, no_items, no_members}
-use Rattle.json.specs.{Json.{null as null_of, number as number_of, object, string as string_of, value}, Lex.{Lexeme, Place, after_comma}}
-use Rattle.json.specs.Lex.{after_key, after_value, begins_colon, between, colon, comma, fresh, if_allowed, lex, may_begin, may_close}
-use Rattle.json.specs.{Lex.{place_token, punctuate, token, tokens}, Token.{Token, bad, begin_array, begin_object, boolean, end_array}}
-use Rattle.json.specs.{Token.{end_object, key, null, number, string}, Tree.{depth, items_tokens, json_tokens, members_tokens}}
+use Rattle.std.proofs.{lemmas.Grind.common_steps, Common.{◌≡◌, ◌∙◌, ℕ, Bool, true, false, List, [], ◌∷◌, ◌++◌, Some, refl, sym, ap}}
+use Rattle.std.proofs.Common.{append_assoc, append-nil, arith}
+use Rattle.json.specs.{Json.{Items, Json, Members, array, document, item, member, no_items, no_members, object, value}, Lex.{Lexeme, Place}}
+use Rattle.json.specs.Lex.{after_comma, after_key, after_value, begins_colon, between, colon, comma, fresh, lex, place_token}
+use Rattle.json.specs.{Lex.{punctuate, token, tokens}, Token.{Token, bad, end_object}, Tree.{depth, items_tokens, json_tokens}}
+use Rattle.json.specs.Tree.{members_tokens}
 use Rattle.json.proofs.{Found.{Some_inj, one_reading}, Printed.Trees.value-json_tokens, Unique.Spelling.tokens-document}
 use Rattle.lc_laws.proofs.LexedApart.{is_closed, lexed_apart}
 
 -- no token is bad, and the last one closes an object, or there is none and one did before
 abbrev pub is_ended : Bool → List Token → Bool
 is_ended before [] = before
-is_ended before (begin_object ∷ ts) = is_ended false ts
 is_ended before (end_object ∷ ts) = is_ended true ts
-is_ended before (begin_array ∷ ts) = is_ended false ts
-is_ended before (end_array ∷ ts) = is_ended false ts
-is_ended before (key s ∷ ts) = is_ended false ts
-is_ended before (string s ∷ ts) = is_ended false ts
-is_ended before (number s ∷ ts) = is_ended false ts
-is_ended before (boolean b ∷ ts) = is_ended false ts
-is_ended before (null ∷ ts) = is_ended false ts
 is_ended before (bad ∷ ts) = false
+is_ended before (t ∷ ts) = is_ended false ts
 
 -- ---- the tokens of an object
 
 abbrev is_object : Json → Bool
-is_object null_of = false
-is_object (boolean_of b) = false
-is_object (number_of s) = false
-is_object (string_of s) = false
-is_object (array js) = false
 is_object (object ms) = true
+is_object j = false
 
 mutual
   value_ended : (j : Json) (before : Bool) (rest : List Token) → is_ended before (json_tokens j ++ rest) ≡ is_ended (is_object j) rest
-  value_ended null_of before rest = refl
-  value_ended (boolean_of b) before rest = refl
-  value_ended (number_of s) before rest = refl
-  value_ended (string_of s) before rest = refl
   value_ended (array js) before rest = items_ended js false rest
   value_ended (object ms) before rest = members_ended ms false rest
+  value_ended j before rest = refl
 
   items_ended : (js : Items) (before : Bool) (rest : List Token) → is_ended before (items_tokens js ++ rest) ≡ is_ended false rest
   items_ended no_items before rest = refl
@@ -61,10 +47,9 @@ object_ended ms =
 
 -- whether the last token of an object can be before this place
 abbrev pub follows : Place → Bool
-follows fresh = false
 follows after_value = true
 follows after_comma = true
-follows after_key = false
+follows p = false
 
 -- the lexemes are closed, and more of them give more tokens
 pub record Placed (p : Place) (before : Bool) (ls more : List Lexeme) : Type 0 where
@@ -80,33 +65,12 @@ not_true e = absurd (cc)
 
 none_placed : (more : List Lexeme) → Places [] more
 unfolding punctuate
-none_placed more fresh true at ended = not_true (at refl)
-none_placed more fresh false at ended = absurd (cc)
-none_placed more after_value before at ended = record { closed = ended; tokens_are = refl }
-none_placed more after_comma before at ended = absurd (cc)
-none_placed more after_key before at ended = absurd (cc)
-
--- a token that is allowed, where it leaves this said of those after it
-module _ (t : Token) (l : Lexeme) (next : Place) (before after : Bool) (ls more : List Lexeme)
-    (later : is_ended after (punctuate next ls) ≡ true → Placed next after ls more)
-    (ends : (ts : List Token) → is_ended before (t ∷ ts) ≡ is_ended after ts)
-    (closes : is_closed before (l ∷ ls) ≡ is_closed after ls) where
-  allowed : (b : Bool) → is_ended before (if_allowed b t (λ n. punctuate n ls) next) ≡ true
-      → (is_closed before (l ∷ ls) ≡ true)
-      × (if_allowed b t (λ n. punctuate n (ls ++ more)) next
-      ≡ if_allowed b t (λ n. punctuate n ls) next ++ punctuate after_value more)
-  allowed true ended =
-      let rest = later (sym (ends (punctuate next ls)) ∙ ended) in
-      (closes ∙ rest.closed, ap (λ (ts : List Token). t ∷ ts) rest.tokens_are)
-  allowed false ended = absurd (cc)
+none_placed more = grind (arith, common_steps, not_true)
 
 punctuated : (p : Place) (t : Token) (ls : List Lexeme)
     → punctuate p (token t ∷ ls) ≡ place_token p t (begins_colon ls) (λ n. punctuate n ls)
 unfolding punctuate
-punctuated fresh t ls = refl
-punctuated after_value t ls = refl
-punctuated after_comma t ls = refl
-punctuated after_key t ls = refl
+punctuated p t ls = grind (arith, common_steps)
 
 -- what is placed of a token
 abbrev TokenPlaced : Place → Bool → Token → List Lexeme → List Lexeme → Type 0
@@ -115,80 +79,22 @@ TokenPlaced p before t ls more =
     × (place_token p t (begins_colon (ls ++ more)) (λ n. punctuate n (ls ++ more))
     ≡ place_token p t (begins_colon ls) (λ n. punctuate n ls) ++ punctuate after_value more)
 
-text_placed : (p : Place) (before : Bool) (s : List ℕ) (ls more : List Lexeme) (b : Bool) → begins_colon (ls ++ more) ≡ b
-    → begins_colon ls ≡ b → Places ls more → is_ended before (place_token p (string s) b (λ n. punctuate n ls)) ≡ true
-    → TokenPlaced p before (string s) ls more
-text_placed p before s ls more true long short later ended =
-    let own = allowed (key s) (token (string s)) after_key before false ls more (later after_key false not_true) (λ ts. refl) refl
-    (may_begin p) ended in (
-      own.0,
-      ap (λ b. place_token p (string s) b (λ n. punctuate n (ls ++ more))) long ∙ own.1
-          ∙ ap (λ b. place_token p (string s) b (λ n. punctuate n ls) ++ punctuate after_value more) (sym short),
-    )
-text_placed p before s ls more false long short later ended =
-    let own = allowed (string s) (token (string s)) after_value before false ls more (later after_value false not_true) (λ ts. refl) refl
-    (may_begin p) ended in (
-      own.0,
-      ap (λ b. place_token p (string s) b (λ n. punctuate n (ls ++ more))) long ∙ own.1
-          ∙ ap (λ b. place_token p (string s) b (λ n. punctuate n ls) ++ punctuate after_value more) (sym short),
-    )
-
--- a text is not the last lexeme
-not_last : (p : Place) (before : Bool) (s : List ℕ) (b : Bool)
-    → is_ended before (if_allowed b (string s) (λ n. punctuate n []) after_value) ≡ true → ⊥
-unfolding punctuate
-not_last p before s true ended = cc
-not_last p before s false ended = cc
-
 token_placed : (p : Place) (before : Bool) (t : Token) (ls more : List Lexeme) → Places ls more
     → is_ended before (place_token p t (begins_colon ls) (λ n. punctuate n ls)) ≡ true → TokenPlaced p before t ls more
-token_placed p before begin_object ls more later ended =
-    allowed begin_object (token begin_object) fresh before false ls more (later fresh false not_true) (λ ts. refl) refl (may_begin p) ended
-token_placed p before end_object ls more later ended =
-    allowed end_object (token end_object) after_value before true ls more (later after_value true (λ _. refl)) (λ ts. refl) refl
-    (may_close p) ended
-token_placed p before begin_array ls more later ended =
-    allowed begin_array (token begin_array) fresh before false ls more (later fresh false not_true) (λ ts. refl) refl (may_begin p) ended
-token_placed p before end_array ls more later ended =
-    allowed end_array (token end_array) after_value before false ls more (later after_value false not_true) (λ ts. refl) refl
-    (may_close p) ended
-token_placed p before (key s) ls more later ended = absurd (cc)
-token_placed p before (string s) [] more later ended = absurd (not_last p before s (may_begin p) ended)
-token_placed p before (string s) (token u ∷ ls) more later ended =
-    text_placed p before s (token u ∷ ls) more false refl refl later ended
-token_placed p before (string s) (comma ∷ ls) more later ended = text_placed p before s (comma ∷ ls) more false refl refl later ended
-token_placed p before (string s) (colon ∷ ls) more later ended = text_placed p before s (colon ∷ ls) more true refl refl later ended
-token_placed p before (number s) ls more later ended =
-    allowed (number s) (token (number s)) after_value before false ls more (later after_value false not_true) (λ ts. refl) refl
-    (may_begin p) ended
-token_placed p before (boolean b) ls more later ended =
-    allowed (boolean b) (token (boolean b)) after_value before false ls more (later after_value false not_true) (λ ts. refl) refl
-    (may_begin p) ended
-token_placed p before null ls more later ended =
-    allowed null (token null) after_value before false ls more (later after_value false not_true) (λ ts. refl) refl (may_begin p) ended
-token_placed p before bad ls more later ended = absurd (cc)
+unfolding punctuate
+token_placed p before t ls more later ended = grind (arith, common_steps, not_true)
 
 pub placed : (ls more : List Lexeme) → Places ls more
 unfolding punctuate
 placed [] more p before at ended = none_placed more p before at ended
 placed (token t ∷ ls) more p before at ended =
-    let own = token_placed p before t ls more (placed ls more) (ap (is_ended before) (sym (punctuated p t ls)) ∙ ended) in
-    record {
-      closed = own.0;
-      tokens_are = punctuated p t (ls ++ more) ∙ own.1
-          ∙ ap (λ (ts : List Token). ts ++ punctuate after_value more) (sym (punctuated p t ls));
-    }
-placed (comma ∷ ls) more fresh before at ended = absurd (cc)
+    grind (arith, common_steps, none_placed, token_placed, punctuated, not_true, placed ls more)
 placed (comma ∷ ls) more after_value before at ended =
-    let rest = placed ls more after_comma before (λ _. refl) ended in record { closed = rest.closed; tokens_are = rest.tokens_are }
-placed (comma ∷ ls) more after_comma before at ended = absurd (cc)
-placed (comma ∷ ls) more after_key before at ended = absurd (cc)
-placed (colon ∷ ls) more fresh before at ended = absurd (cc)
-placed (colon ∷ ls) more after_value before at ended = absurd (cc)
-placed (colon ∷ ls) more after_comma before at ended = absurd (cc)
+    grind (arith, common_steps, none_placed, token_placed, punctuated, not_true, placed ls more after_comma before (λ _. refl) ended)
 placed (colon ∷ ls) more after_key true at ended = not_true (at refl)
 placed (colon ∷ ls) more after_key false at ended =
-    let rest = placed ls more fresh false not_true ended in record { closed = rest.closed; tokens_are = rest.tokens_are }
+    grind (arith, common_steps, none_placed, token_placed, punctuated, not_true, placed ls more fresh false not_true ended)
+placed ls more p before at ended = absurd (cc)
 
 -- ---- texts
 
@@ -214,29 +120,13 @@ one_object_first ms ns after more same =
     (ap (λ (p : Json × List Token). p.0) both, ap (λ (p : Json × List Token). p.1) both)
 
 -- where nothing is left after a value, there is no lexeme
-allowed_some : (b : Bool) (t : Token) (k : Place → List Token) (next : Place) → if_allowed b t k next ≡ [] → ⊥
-allowed_some true t k next e = cc
-allowed_some false t k next e = cc
-
 placed_some : (p : Place) (t : Token) (b : Bool) (k : Place → List Token) → place_token p t b k ≡ [] → ⊥
-placed_some p begin_object b k e = allowed_some (may_begin p) begin_object k fresh e
-placed_some p end_object b k e = allowed_some (may_close p) end_object k after_value e
-placed_some p begin_array b k e = allowed_some (may_begin p) begin_array k fresh e
-placed_some p end_array b k e = allowed_some (may_close p) end_array k after_value e
-placed_some p (key s) b k e = cc
-placed_some p (string s) true k e = allowed_some (may_begin p) (key s) k after_key e
-placed_some p (string s) false k e = allowed_some (may_begin p) (string s) k after_value e
-placed_some p (number s) b k e = allowed_some (may_begin p) (number s) k after_value e
-placed_some p (boolean c) b k e = allowed_some (may_begin p) (boolean c) k after_value e
-placed_some p null b k e = allowed_some (may_begin p) null k after_value e
-placed_some p bad b k e = cc
+placed_some p t b k e = grind (arith, common_steps)
 
 comma_some : (ls : List Lexeme) → punctuate after_comma ls ≡ [] → ⊥
 unfolding punctuate
-comma_some [] e = cc
 comma_some (token t ∷ ls) e = placed_some after_comma t (begins_colon ls) _ e
-comma_some (comma ∷ ls) e = cc
-comma_some (colon ∷ ls) e = cc
+comma_some ls e = cc
 
 pub nothing_lexed : (ls : List Lexeme) → punctuate after_value ls ≡ [] → ls ≡ []
 unfolding punctuate

@@ -1,22 +1,22 @@
 -- The rules that hold in each directory, where the only ignore file is the top's `.gitignore`.
-use Rattle.std.proofs.Common.{◌≡◌, ◌≢◌, ℕ, Bool, true, false, cond, List, [], ◌∷◌, ◌++◌, refl, sym, ◌∙◌, ap, subst, Option, Some, None}
-use Rattle.std.proofs.Common.{Result, Ok, Err, codes, bytes_eq, append-nil, inl, inr, ◌⊎◌}
-use Rattle.std.specs.{List.AllByRecursion, Prelude.option_map}
+use Rattle.std.proofs.Common.{arith, ◌≡◌, ◌≢◌, ℕ, Bool, true, false, cond, List, [], ◌∷◌, ◌++◌, refl, sym, ◌∙◌, ap, subst, Option}
+use Rattle.std.proofs.{Common.{Some, None, Result, Ok, codes, bytes_eq, append-nil, inl, inr, ◌⊎◌}, lemmas.Grind.common_steps}
+use Rattle.std.specs.Prelude.{option_map}
 use Rattle.lc_census.specs.declared.line_count.Count.{Count}
-use Rattle.lc_glob.specs.Path.{path_in, depth_of}
-use Rattle.lc_level.specs.Answers.{Item, file_item, directory_item, other_item, name_of, entry_of, entries_of, Answers, Tree, Items}
-use Rattle.lc_level.specs.{FaultLines.FaultLineModel, Job.JobModel, Level.child_job, OneAnswer.GivesOne, RuleFiles.{listing, Pair}}
-use Rattle.lc_level.specs.RuleFiles.{RuleBytes, file_named, ignore_named, has_directory, has_git, and_then, reading, both_read}
-use Rattle.lc_level.specs.{RuleFiles.{info_items, info_bytes, own_bytes, rule_bytes, with_file_at, first_of}, TopJob.top_job}
-use Rattle.lc_level.specs.{TreeAnswers.{MayHave, MayList, MayAnswer, items_of}, declared.fault_word.FaultWord.FaultWord, Filters.no_filters}
+use Rattle.lc_glob.specs.Path.{depth_of}
+use Rattle.lc_level.specs.{Answers.{Item, file_item, directory_item, other_item, name_of, entry_of, Answers, Tree, Items}, Job.JobModel}
+use Rattle.lc_level.specs.{Level.child_job, OneAnswer.GivesOne, RuleFiles.{Pair, RuleBytes, file_named, ignore_named, has_directory}}
+use Rattle.lc_level.specs.RuleFiles.{has_git, and_then, both_read, info_items, info_bytes, rule_bytes, with_file_at, first_of}
+use Rattle.lc_level.specs.{TopJob.top_job, TreeAnswers.{MayHave, MayList, MayAnswer, items_of}, declared.fault_word.FaultWord.FaultWord}
+use Rattle.lc_level.specs.Filters.{no_filters}
 use Rattle.lc_level.proofs.WellFormed.{same_bytes, bytes_same}
 use Rattle.lc_rules.specs.{IgnoreChains.{ChainModel, rules_in}, IgnoreRules.{RuleModel, rules_of}, Verdicts.at_depth}
-use Rattle.lc_tree.specs.{Listing.EntryModel, Paths.names_of_path, Trees.{Listings, Contents}, declared.entry.Kind.Kind}
-use Rattle.lc_tree.specs.declared.entry.Kind.TheVariants.{File, Dir, Other}
+use Rattle.lc_tree.specs.{Listing.EntryModel, Paths.names_of_path, Trees.{Listings, Contents}, declared.entry.Kind.TheVariants.{File, Dir}}
+use Rattle.lc_tree.specs.declared.entry.Kind.TheVariants.{Other}
 use Rattle.lc_walk.specs.{FoundAt.{IsListed, LeadsTo}, GivenAnswers.{HasListings, IsGiven}}
 use Rattle.lc_walk.proofs.Elements.{In, contains, of_mapped}
 use Rattle.lc_laws.specs.{CountsChecked.{HasTopRules, ReadsTopRules}, Entries.HasListed}
-use Rattle.lc_laws.proofs.{Items.{IsItem, named_item, has_listed}, OneWay.place_names}
+use Rattle.lc_laws.proofs.{Items.{IsItem, named_item, has_listed}, OneWay.place_names, Elements.of_each}
 
 -- ---- files of a name
 
@@ -63,29 +63,10 @@ some_file (other_item n what ∷ items) name item (inr i) e = some_file items na
 
 -- ---- what was read
 
-read_of : (path : List ℕ) (file : Option (Result (List ℕ) FaultWord)) (x : Option (List ℕ)) → reading path file ≡ Ok x
-    → option_map Ok x ≡ file
-read_of path None x e = let same : x ≡ None = cc e in ap (λ y. option_map Ok y) same
-read_of path (Some (Ok bytes)) x e = let same : x ≡ Some bytes = cc e in ap (λ y. option_map Ok y) same
-read_of path (Some (Err word)) x e = absurd (cc e)
-
 -- the first of two that were read is that of the first file
 pub pair_rules : (p q : List ℕ) (file other : Option (Result (List ℕ) FaultWord)) (pair : Pair) → both_read p file q other ≡ Ok pair
     → option_map Ok pair.rules ≡ file
-pair_rules p q file other pair e = at (reading p file) refl e
-  where
-    after : (x : Option (List ℕ)) → reading p file ≡ Ok x → (y : Result (Option (List ℕ)) FaultLineModel)
-        → and_then y (λ z. Ok (record { rules = x; attributes = z })) ≡ Ok pair → option_map Ok pair.rules ≡ file
-    after x is (Ok y) f =
-        let same : record { rules = x; attributes = y } ≡ pair = cc f in
-        ap (option_map Ok) (sym (ap (λ (z : Pair). z.rules) same)) ∙ read_of p file x is
-    after x is (Err fault) f = absurd (cc f)
-
-    at : (first : Result (Option (List ℕ)) FaultLineModel) → reading p file ≡ first
-        → and_then first (λ x. and_then (reading q other) (λ y. Ok (record { rules = x; attributes = y }))) ≡ Ok pair
-        → option_map Ok pair.rules ≡ file
-    at (Ok x) is f = after x is (reading q other) f
-    at (Err fault) is f = absurd (cc f)
+pair_rules p q file other pair e = grind (arith, common_steps)
 
 -- all that was read for a directory
 pub record ReadHere (no_ignore : Bool) (path : List ℕ) (items : List Item) (a : Answers) (bytes : RuleBytes) : Type 0 where
@@ -95,33 +76,12 @@ pub record ReadHere (no_ignore : Bool) (path : List ℕ) (items : List Item) (a 
 -- what a directory's rules are read from, where all of them could be read
 pub read_here : (no_ignore : Bool) (path : List ℕ) (items : List Item) (a : Answers) (bytes : RuleBytes)
     → rule_bytes no_ignore path items a ≡ Ok bytes → ReadHere no_ignore path items a bytes
-read_here no_ignore path items a bytes e = at (and_then (info_items (has_git path items) a) (info_bytes no_ignore)) refl e
-  where
-    after : (i : Pair) → and_then (info_items (has_git path items) a) (info_bytes no_ignore) ≡ Ok i → (own : Result Pair FaultLineModel)
-        → own_bytes no_ignore path items ≡ own → and_then own (λ o. Ok (record { info = i; own = o })) ≡ Ok bytes
-        → ReadHere no_ignore path items a bytes
-    after i is (Ok o) own f =
-        let same : record { info = i; own = o } ≡ bytes = cc f in
-        record {
-          info = is ∙ ap Ok (ap (λ (b : RuleBytes). b.info) same);
-          own = ap (option_map Ok) (sym (ap (λ (b : RuleBytes). b.own.rules) same))
-              ∙ pair_rules (path_in path (codes ".gitignore")) (path_in path (codes ".gitattributes"))
-              (ignore_named no_ignore (codes ".gitignore") items) (file_named (codes ".gitattributes") items) o own;
-        }
-    after i is (Err fault) own f = absurd (cc f)
-
-    at : (info : Result Pair FaultLineModel) → and_then (info_items (has_git path items) a) (info_bytes no_ignore) ≡ info
-        → and_then info (λ i. and_then (own_bytes no_ignore path items) (λ o. Ok (record { info = i; own = o }))) ≡ Ok bytes
-        → ReadHere no_ignore path items a bytes
-    at (Ok i) is f = after i is (own_bytes no_ignore path items) refl f
-    at (Err fault) is f = absurd (cc f)
+read_here no_ignore path items a bytes e = grind (arith, common_steps, pair_rules)
 
 -- nothing is read of `.git/info` where it isn't there
 no_info : (no_ignore : Bool) (a : Answers) (there : Bool) (i : Pair) → there ≡ false → and_then (info_items there a) (info_bytes no_ignore)
     ≡ Ok i → i.rules ≡ None
-no_info no_ignore a true i e is = absurd (cc e)
-no_info true a false i e is = sym (ap (λ (p : Result Pair FaultLineModel). elim p [ Ok x ↦ x.rules | Err f ↦ None ]) is)
-no_info false a false i e is = sym (ap (λ (p : Result Pair FaultLineModel). elim p [ Ok x ↦ x.rules | Err f ↦ None ]) is)
+no_info no_ignore a there i e is = grind (arith, common_steps)
 
 -- what is read of `.git/info` is in items of it, where there are some
 record InfoItems (no_ignore : Bool) (a : Answers) (there : Bool) (rules : Option (List ℕ)) : Type 0 where
@@ -131,45 +91,7 @@ record InfoItems (no_ignore : Bool) (a : Answers) (there : Bool) (rules : Option
 
 info_items_of : (no_ignore : Bool) (a : Answers) (there : Bool) (i : Pair) → and_then (info_items there a) (info_bytes no_ignore) ≡ Ok i
     → InfoItems no_ignore a there i.rules
-info_items_of no_ignore a there i e = at there refl (info_items there a) refl e
-  where
-    rules_in_items : (items : List Item) → info_bytes no_ignore items ≡ Ok i → option_map Ok i.rules
-        ≡ ignore_named no_ignore (codes "exclude") items
-    rules_in_items items f =
-        pair_rules (codes ".git/info/exclude") (codes ".git/info/attributes") (ignore_named no_ignore (codes "exclude") items)
-        (file_named (codes "attributes") items) i f
-
-    by_info : (b : Bool) (items : List Item) → listing b (codes ".git/info") a.info ≡ Ok items
-        → (items ≡ []) ⊎ ((b ≡ true) × (a.info ≡ Ok items))
-    by_info false items f = let none : items ≡ [] = cc f in inl none
-    by_info true items f = by a.info refl f
-      where
-        by : (o : Items) → a.info ≡ o → listing true (codes ".git/info") o ≡ Ok items
-            → (items ≡ []) ⊎ ((true ≡ true) × (a.info ≡ Ok items))
-        by (Ok xs) is g = let same : xs ≡ items = cc g in inr (refl, is ∙ ap Ok same)
-        by (Err word) is g = absurd (cc g)
-
-    by_git : (b : Bool) → there ≡ b → (g : Items) → a.git ≡ g → (items : List Item)
-        → and_then (listing b (codes ".git") g) (λ in_git. listing (has_directory (codes "info") in_git) (codes ".git/info") a.info) ≡
-        Ok items
-        → (items ≡ []) ⊎ ((there ≡ true) × (has_directory (codes "info") (items_of a.git) ≡ true) × (a.info ≡ Ok items))
-    by_git false is g git items f = let none : items ≡ [] = cc f in inl none
-    by_git true is (Ok xs) git items f = after (by_info (has_directory (codes "info") xs) items f)
-      where
-        after : (items ≡ []) ⊎ ((has_directory (codes "info") xs ≡ true) × (a.info ≡ Ok items))
-            → (items ≡ []) ⊎ ((there ≡ true) × (has_directory (codes "info") (items_of a.git) ≡ true) × (a.info ≡ Ok items))
-        after (inl none) = inl none
-        after (inr (has, info)) = inr (is, ap (λ (o : Items). has_directory (codes "info") (items_of o)) git ∙ has, info)
-    by_git true is (Err word) git items f = absurd (cc f)
-
-    at : (b : Bool) → there ≡ b → (read : Result (List Item) FaultLineModel) → info_items there a ≡ read
-        → and_then read (info_bytes no_ignore) ≡ Ok i → InfoItems no_ignore a there i.rules
-    at b is (Ok items) read f = record {
-      items = items;
-      is = rules_in_items items f;
-      listed = by_git b is a.git refl items (ap (λ c. info_items c a) (sym is) ∙ read);
-    }
-    at b is (Err fault) read f = absurd (cc f)
+info_items_of no_ignore a there i e = grind (arith, common_steps, pair_rules)
 
 -- ---- chains
 
@@ -193,16 +115,9 @@ with_both j info own = record {
 
 both_are : (j : JobModel) (a : Answers) (items : List Item) (inside : JobModel) (listed : IsListed j a items inside)
     (info own : Option (List ℕ)) → listed.bytes.info.rules ≡ info → listed.bytes.own.rules ≡ own → inside.ignore ≡ with_both j info own
-both_are j a items inside listed info own one other =
-    ap (λ (i : JobModel). i.ignore) listed.is ∙ ap (λ x. with_both j x listed.bytes.own.rules) one ∙ ap (with_both j info) other
+both_are j a items inside listed info own one other = grind (arith, common_steps)
 
 -- ---- by what is read
-
--- no rules are added where no file is read
-none_added : (j : JobModel) (a : Answers) (items : List Item) (inside : JobModel) (rules : List RuleModel)
-    (listed : IsListed j a items inside) → (listed.bytes.info.rules ≡ None) × (listed.bytes.own.rules ≡ None)
-    → j.ignore ≡ top_chain rules → inside.ignore ≡ top_chain rules
-none_added j a items inside rules listed none chain = both_are j a items inside listed None None none.0 none.1 ∙ chain
 
 -- below the top nothing is read
 abbrev ReadsNone : JobModel → Tree → Type 0
@@ -216,11 +131,13 @@ lower : (rules : List RuleModel) (place : List (List ℕ)) (j : JobModel) (u : T
     → inside.ignore ≡ top_chain rules
 lower rules [] j u none chain k leads items inside listed =
     let here : IsListed j (u []) items inside = subst (λ (i : JobModel). IsListed i (u []) items inside) (sym leads) listed in
-    none_added j (u []) items inside rules here (none [] j items here.bytes refl here.here here.read) chain
+    let files = none [] j items here.bytes refl here.here here.read in
+    both_are j (u []) items inside here None None files.0 files.1 ∙ chain
 lower rules (n ∷ place) j u none chain k (within, leaves, leads) items inside listed =
     let l = leaves.listed in
+    let read = none [] j leaves.items l.bytes refl l.here l.read in
     lower rules place (child_job within n) (λ p. u (n ∷ p)) (λ p i es files on. none (n ∷ p) i es files (within, leaves, on))
-    (none_added j (u []) leaves.items within rules l (none [] j leaves.items l.bytes refl l.here l.read) chain) k leads items inside listed
+    (both_are j (u []) leaves.items within l None None read.0 read.1 ∙ chain) k leads items inside listed
 
 module _ (t : Tree) (bytes : List ℕ) (reads : ReadsTopRules no_filters (top_job no_filters) t bytes) where
   -- at the top the rules are those of its file
@@ -245,8 +162,7 @@ module _ (t : Tree) (bytes : List ℕ) (reads : ReadsTopRules no_filters (top_jo
 -- ---- by a tree that answers in one way
 
 not_top : (path : List ℕ) (items : List Item) → (path ≡ [] → ⊥) → has_git path items ≡ false
-not_top [] items some = absurd (some refl)
-not_top (b ∷ bs) items some = refl
+not_top path items some = grind (arith, common_steps)
 
 module _ (lists : List ℕ → Listings) (gives : List ℕ → Contents) (one : GivesOne lists gives) (bytes : List ℕ)
     (has : HasTopRules lists gives bytes) where
@@ -256,14 +172,7 @@ module _ (lists : List ℕ → Listings) (gives : List ℕ → Contents) (one : 
 
   entry_listed : (path : List ℕ) (items : List Item) (item : Item) → MayList lists gives path (Ok items) → In item items
       → HasListed lists path (name_of item) (entry_of item).kind
-  entry_listed path items item may i =
-      (entries_of items, may.0, contains (entry_of item) (entries_of items) (of_mapped entry_of item items i))
-
-  each_has : (path : List ℕ) (items : List Item) (item : Item) → AllByRecursion (MayHave lists gives path) items → In item items
-      → MayHave lists gives path item
-  each_has path [] item all i = absurd i
-  each_has path (x ∷ xs) item all (inl e) = subst (MayHave lists gives path) e all.0
-  each_has path (x ∷ xs) item all (inr i) = each_has path xs item all.1 i
+  entry_listed path items item may i = grind (arith, common_steps, contains, of_mapped)
 
   -- below the top no rules are read
   none_below : (no_ignore : Bool) (path : List ℕ) (a : Answers) (items : List Item) (files : RuleBytes) → (path ≡ [] → ⊥)
@@ -296,9 +205,6 @@ module _ (lists : List ℕ → Listings) (gives : List ℕ → Contents) (one : 
         may : MayList lists gives [] (Ok items)
         may = all_listed [] (t []) items answers here
 
-        top_items : (b : Bool) → has_git [] items ≡ b → has_git [] (items_of (t []).here) ≡ b
-        top_items b e = ap (λ (o : Items). has_git [] (items_of o)) here ∙ e
-
         info : (rules : Option (List ℕ)) → InfoItems false (t []) (has_git [] items) rules → rules ≡ None
         info None found = refl
         info (Some text) found = at found.listed
@@ -310,7 +216,8 @@ module _ (lists : List ℕ → Listings) (gives : List ℕ → Contents) (one : 
                 × ((t []).info ≡ Ok found.items)) → Some text ≡ None
             at (inl none) = absurd (subst (In (file_item (codes "exclude") f.0 (Ok text))) none f.1)
             at (inr (git, inside_git, is)) =
-                let may_info = subst (MayList lists gives (codes ".git/info")) is (answers.info (top_items true git) inside_git) in
+                let git_there = ap (λ (o : Items). has_git [] (items_of o)) here ∙ git in
+                let may_info = subst (MayList lists gives (codes ".git/info")) is (answers.info git_there inside_git) in
                 absurd (has.no_info (entry_listed (codes ".git/info") found.items (file_item (codes "exclude") f.0 (Ok text)) may_info f.1))
 
         there : IsItem items (codes ".gitignore") File
@@ -319,17 +226,13 @@ module _ (lists : List ℕ → Listings) (gives : List ℕ → Contents) (one : 
             (codes ".gitignore") File
             has.there)
 
-        entry_is : (e : EntryModel) → e.name ≡ codes ".gitignore" → e.kind ≡ File → e ≡ record { name = codes ".gitignore"; kind = File }
-        entry_is e n k =
-            ap (λ m. record { name = m; kind = e.kind }) n ∙ ap (λ (d : Kind). record { name = codes ".gitignore"; kind = d }) k
-
         own : (rules : Option (List ℕ)) → option_map Ok rules ≡ file_named (codes ".gitignore") items → rules ≡ Some bytes
         own None e =
             absurd (some_file items (codes ".gitignore") there.item there.has
-            (entry_is (entry_of there.item) there.named there.kind_is) (sym e))
+            (λ i. record { name = there.named i; kind = there.kind_is i }) (sym e))
         own (Some text) e =
             let f = file_of items (codes ".gitignore") (Ok text) (sym e) in
-            let reads = each_has [] items (file_item (codes ".gitignore") f.0 (Ok text)) may.1 f.1 in
+            let reads = of_each (MayHave lists gives []) (file_item (codes ".gitignore") f.0 (Ok text)) items may.1 f.1 in
             let same : Ok text ≡ Ok bytes = one.rules (codes ".gitignore") (Ok text) (Ok bytes) reads.1 has.read in
             let is : text ≡ bytes = cc same in
             ap Some is

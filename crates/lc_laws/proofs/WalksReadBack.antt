@@ -1,14 +1,14 @@
 -- Reports of walks that were printed as JSON with all their files, and what meets conditions of them, as they are read.
-use Rattle.std.proofs.Common.{◌≡◌, ◌∙◌, ℕ, true, List, [], ◌∷◌, Option, Some, None, sym, ap, subst, IsPermutation}
-use Rattle.std.proofs.lemmas.{Cmp.nat_list_cmp_total, List.{Elements.All-head, Sorted.IsPermutation-refl}}
+use Rattle.std.proofs.{Common.{arith, ◌≡◌, ◌∙◌, ℕ, true, List, [], Option, Some, ap, subst, IsPermutation}, lemmas.Grind.common_steps}
+use Rattle.std.proofs.lemmas.{Cmp.nat_list_cmp_total, List.Elements.All-head}
 use Rattle.std.specs.List.{All}
 use Rattle.json.specs.Json.{Json, document}
 use Rattle.lc_formats.specs.{JsonSheets.json_of, JsonText.{Member, members_with, object_with}}
 use Rattle.lc_level.specs.Level.{FileLineModel}
 use Rattle.lc_rows.proofs.WalkedSheets.{walked_adds_up}
-use Rattle.lc_rows.specs.{Kept.{IsKept, file_meets}, ShownFiles.AreFilesSorted}
+use Rattle.lc_rows.specs.{Kept.IsKept, ShownFiles.AreFilesSorted}
 use Rattle.lc_sheet.specs.{Conditions.ConditionModel, declared.column.Number.Number}
-use Rattle.lc_tree.specs.{ByteOrder.{AreInOrder, bytes_cmp}, Trees.{Listings, Contents}}
+use Rattle.lc_tree.specs.{ByteOrder.AreInOrder, Trees.{Listings, Contents}}
 use Rattle.lc_walk.proofs.ReportTotals.{walked_lists}
 use Rattle.lc_walk.specs.{ReportLines.{fault_paths, file_paths, skipped_paths}, ReportTotals.TotalsAddUp}
 use Rattle.lc_walk.specs.declared.{options.ReportLists.ReportLists, report.Report.Report}
@@ -18,28 +18,13 @@ use Rattle.lc_laws.specs.ReadBack.{FitsTypes, ReadBackLaw}
 
 -- the files are all of the report's, in some order
 files_moved : (sort : Option Number) (fs sorted : List FileLineModel) → AreFilesSorted sort fs sorted → IsPermutation fs sorted
-files_moved None fs sorted e = subst (IsPermutation fs) (sym e) (IsPermutation-refl fs)
-files_moved (Some n) fs sorted h = h.0
+files_moved sort fs sorted e = grind (arith, common_steps)
 
 -- what meets conditions of a report that is whole is whole
 kept_whole : (cs : List ConditionModel) (whole r : Report) → IsKept cs whole r → TotalsAddUp r → whole.lists.files ≡ true
     → AreInOrder (file_paths whole.files.items) → AreInOrder (fault_paths whole.faults.items)
     → AreInOrder (skipped_paths whole.skipped.items) → IsWholeReport r
-kept_whole [] whole r is adds_up listed files faults skipped = record {
-  adds_up = adds_up;
-  lists_files = ap (λ (x : Report). x.lists.files) is ∙ listed;
-  files = subst (λ (x : Report). AreInOrder (file_paths x.files.items)) (sym is) files;
-  faults = subst (λ (x : Report). AreInOrder (fault_paths x.faults.items)) (sym is) faults;
-  skipped = subst (λ (x : Report). AreInOrder (skipped_paths x.skipped.items)) (sym is) skipped;
-}
-kept_whole (c ∷ cs) whole r is adds_up listed files faults skipped = record {
-  adds_up = adds_up;
-  lists_files = ap (λ (l : ReportLists). l.files) is.lists ∙ listed;
-  files = subst (λ fs. AreInOrder (file_paths fs)) (sym is.files)
-      (filtered_risen (λ (f : FileLineModel). f.path) bytes_cmp nat_list_cmp_total (file_meets (c ∷ cs)) whole.files.items files);
-  faults = subst (λ v. AreInOrder (fault_paths v.items)) (sym is.faults) faults;
-  skipped = subst (λ v. AreInOrder (skipped_paths v.items)) (sym is.skipped) skipped;
-}
+kept_whole cs whole r is adds_up listed files faults skipped = grind (arith, common_steps, filtered_risen, nat_list_cmp_total)
 
 pub read_back_law : (lists : List ℕ → Listings) (gives : List ℕ → Contents) → ReadBackLaw lists gives
 read_back_law lists gives o options attributes r s text reports w listed json shown sheet (line, text_is, line_is) fits read_fits are =

@@ -1,8 +1,8 @@
 -- A report that was printed as JSON with all its files, and was read, is that report.
-use Rattle.std.proofs.Common.{◌≡◌, ◌≢◌, ◌∙◌, ◌⊎◌, inl, inr, ◌<◌, ◌^◌, ℕ, Bool, true, false, List, [], ◌∷◌, map, codes, refl, sym, ap}
-use Rattle.std.proofs.{Common.{subst, arith, length, IsPermutation}, lemmas.List.Sorted.{All-permutation, IsPermutation-trans}}
-use Rattle.std.proofs.lemmas.List.Elements.{All-from_recursion, recursion_from_All}
-use Rattle.std.specs.{Bool.MatchBool, List.{All, AllByRecursion}}
+use Rattle.std.proofs.{lemmas.{Grind.common_steps, List.{Sorted.{All-permutation, IsPermutation-trans}, Elements.recursion_from_All}}}
+use Rattle.std.proofs.Common.{◌≡◌, ◌≢◌, ◌∙◌, ◌⊎◌, ◌<◌, ◌^◌, ℕ, Bool, true, false, List, [], ◌∷◌, map, codes, refl, sym, subst, arith}
+use Rattle.std.proofs.Common.{length, IsPermutation}
+use Rattle.std.specs.{Bool.MatchBool, List.All}
 use Rattle.json.specs.Json.{Json}
 use Rattle.lc_formats.specs.JsonText.{Member, array_with, integer, object_with}
 use Rattle.lc_level.specs.{FaultLines.FaultLineModel, Level.{FileLineModel, SkippedLineModel}}
@@ -13,15 +13,13 @@ use Rattle.lc_sheet.specs.declared.table_options.TableOptions.{TableOptions}
 use Rattle.lc_tree.specs.ByteOrder.{AreInOrder}
 use Rattle.lc_walk.specs.{ReportLines.{fault_paths, file_paths, skipped_paths}, ReportTotals.{TotalsAddUp, counted_line}, Sums.IsInRange}
 use Rattle.lc_walk.specs.{Sums.plus, Tally.IsTally, TallyRows.AddsUp, declared.{options.ReportLists.ReportLists, report.Report.Report}}
-use Rattle.lc_walk.specs.declared.tally.sums.Sums.{Sums}
-use Rattle.lc_laws.proofs.LinesReadBack.{ShowsFile}
-use Rattle.lc_laws.proofs.{JsonMembers.same_integer, OneOrder.{risen_texts, same_sorted}, OneTally.one_tally, PrintedReport.Parts}
-use Rattle.lc_laws.proofs.PrintedReport.{fault_objects, file_objects, printed_parts, report_members, skipped_objects, sums_members}
+use Rattle.lc_walk.specs.{declared.tally.sums.Sums.Sums, AllColumns.all_columns}
+use Rattle.lc_laws.proofs.{LinesReadBack.ShowsFile, JsonMembers.same_integer, OneOrder.{risen_texts, same_sorted}, OneTally.one_tally}
+use Rattle.lc_laws.proofs.PrintedReport.{Parts, fault_objects, file_objects, printed_parts, report_members, skipped_objects, sums_members}
 use Rattle.lc_laws.proofs.ReportReadBack.{faults_read_back, files_read_back, skipped_texts_read_back, sums_read_back}
 use Rattle.lc_laws.specs.ReadBack.{AreShownFor, FitsFile, FitsTypes, HasNoSkipped, HasSkippedOf, IsReadBack, skipped_text}
-use Rattle.lc_reading.specs.declared.member_name.MemberName.TheVariants as member
 use Rattle.lc_walk.proofs.Classes.{same_classes}
-use Rattle.lc_walk.specs.AllColumns.{all_columns}
+use Rattle.lc_reading.specs.declared.member_name.MemberName.TheVariants as member
 
 -- ---- the members that were printed
 
@@ -35,10 +33,7 @@ record Printed (ms : List Member) (p : Parts) : Type 0 where
   faults : named member.Faults ms ≡ array_with (fault_objects p.form p.faults) ∷ []
 
 printed_at : (p : Parts) (b : Bool) (n : ℕ) (ls : List SkippedLineModel) → Printed (report_members p b n ls) p
-printed_at p true n ls =
-    record { total = refl; text = refl; binary = refl; directories = refl; files = refl; faults = refl }
-printed_at p false n ls =
-    record { total = refl; text = refl; binary = refl; directories = refl; files = refl; faults = refl }
+printed_at p b n ls = grind (arith, common_steps)
 
 -- ---- the lists that are there
 
@@ -47,9 +42,7 @@ files_listed : (A : Type 0) (b : Bool) (ms : List Member) (j : Json) (files : Li
     → named member.Files ms ≡ j ∷ []
     → MatchBool b (A ⊎ (Lacks member.Files ms × (files ≡ []) × (total ≡ 0))) (Lacks member.Files ms × (files ≡ []) × (total ≢ 0))
     → (b ≡ true) × A
-files_listed A true ms j files total printed (inl has) = (refl, has)
-files_listed A true ms j files total printed (inr (lacks, none, zero)) = absurd (let empty : j ∷ [] ≡ [] = sym printed ∙ lacks in cc)
-files_listed A false ms j files total printed (lacks, none, some) = absurd (let empty : j ∷ [] ≡ [] = sym printed ∙ lacks in cc)
+files_listed A b ms j files total printed so = grind (arith, common_steps)
 
 -- skipped entries and their number, where they were printed
 abbrev SkippedIn : Bool → List Member → Report → Type 0
@@ -58,43 +51,18 @@ SkippedIn b ms read =
     × MatchBool b (HasOrdered IsSkippedOf (λ l. l.path) member.Left ms read.skipped.items)
     (Lacks member.Left ms × (read.skipped.items ≡ []))
 
-record SkippedListed (ms : List Member) (read : Report) (b : Bool) : Type 0 where
-  listed : b ≡ true
-  entries : HasNumber member.Entries ms read.entries
-  skipped : HasOrdered IsSkippedOf (λ l. l.path) member.Left ms read.skipped.items
-
 skipped_listed : (b : Bool) (ms : List Member) (j : Json) (read : Report) → named member.Left ms ≡ j ∷ [] → SkippedIn b ms read
-    → SkippedListed ms read b
-skipped_listed true ms j read printed is = record { listed = refl; entries = is.0; skipped = is.1 }
-skipped_listed false ms j read printed is = absurd (let none : j ∷ [] ≡ [] = sym printed ∙ is.1.0 in cc)
-
-record SkippedUnlisted (read : Report) (b : Bool) : Type 0 where
-  unlisted : b ≡ false
-  none : HasNoSkipped read
+    → (b ≡ true) × HasNumber member.Entries ms read.entries × HasOrdered IsSkippedOf (λ l. l.path) member.Left ms read.skipped.items
+skipped_listed b ms j read printed is = grind (arith, common_steps)
 
 skipped_unlisted : (b : Bool) (ms : List Member) (read : Report) → named member.Left ms ≡ [] → SkippedIn b ms read
-    → SkippedUnlisted read b
-skipped_unlisted true ms read printed is = absurd (let none : [] ≡ is.1.has.value ∷ [] = sym printed ∙ is.1.has.has in cc)
-skipped_unlisted false ms read printed is =
-    record { unlisted = refl; none = record { entries = is.0.1; skipped = is.1.1 } }
+    → (b ≡ false) × HasNoSkipped read
+skipped_unlisted b ms read printed is = grind (arith, common_steps)
 
 -- ---- sums
 
-fits_left : (t a b : Sums) → t ≡ plus a b → IsInRange t → IsInRange a
-fits_left t a b e fits =
-    let files = ap (λ (s : Sums). s.files) e in
-    let lines = ap (λ (s : Sums). s.lines) e in
-    let blank = ap (λ (s : Sums). s.blank) e in
-    let bytes = ap (λ (s : Sums). s.bytes) e in
-    record { files = omega arith; lines = omega arith; blank = omega arith; bytes = omega arith }
-
-fits_right : (t a b : Sums) → t ≡ plus a b → IsInRange t → IsInRange b
-fits_right t a b e fits =
-    let files = ap (λ (s : Sums). s.files) e in
-    let lines = ap (λ (s : Sums). s.lines) e in
-    let blank = ap (λ (s : Sums). s.blank) e in
-    let bytes = ap (λ (s : Sums). s.bytes) e in
-    record { files = omega arith; lines = omega arith; blank = omega arith; bytes = omega arith }
+fits_both : (t a b : Sums) → t ≡ plus a b → IsInRange t → IsInRange a × IsInRange b
+fits_both t a b e fits = grind (arith, common_steps)
 
 -- ---- skipped entries
 
@@ -112,41 +80,31 @@ module _ (r : Report) (read : Report) (fits : FitsTypes r) (read_fits : FitsType
       → SkippedReadBack r read
   skipped_back true listed is =
       let ms : List Member = report_members p true r.entries r.skipped.items in
-      let has : SkippedListed ms read read.lists.left_out =
-      skipped_listed read.lists.left_out ms (array_with (skipped_objects p.form r.skipped.items)) read refl
+      let has = skipped_listed read.lists.left_out ms (array_with (skipped_objects p.form r.skipped.items)) read refl
       (is.entries, is.skipped) in
-      let texts : map skipped_text has.skipped.listed ≡ map skipped_text r.skipped.items =
-      skipped_texts_read_back ms p.form r.skipped.items read.skipped.items refl fits.skipped read_fits.skipped has.skipped in
+      let texts = skipped_texts_read_back ms p.form r.skipped.items read.skipped.items refl fits.skipped read_fits.skipped has.2 in
       let entries : read.entries ≡ r.entries =
       same_integer r.entries read.entries (let e : r.entries < 2 ^ 64 = fits.entries in omega arith)
-      (let e : read.entries < 2 ^ 64 = read_fits.entries in omega arith) has.entries in record {
-        lists = has.listed ∙ sym listed;
+      (let e : read.entries < 2 ^ 64 = read_fits.entries in omega arith) has.1 in record {
+        lists = has.0 ∙ sym listed;
         skipped = subst (λ b. MatchBool b (HasSkippedOf r read) (HasNoSkipped read)) (sym listed) (record {
           entries = entries;
           skipped = risen_texts skipped_text (λ (l : SkippedLineModel). l.path) (λ t. t.path) (λ l. refl) r.skipped.items
-              has.skipped.listed read.skipped.items order texts has.skipped.same has.skipped.order;
+              has.2.listed read.skipped.items order texts has.2.same has.2.order;
         });
       }
   skipped_back false listed is =
       let ms : List Member = report_members p false r.entries r.skipped.items in
-      let has : SkippedUnlisted read read.lists.left_out =
-      skipped_unlisted read.lists.left_out ms read refl (is.entries, is.skipped) in record {
-        lists = has.unlisted ∙ sym listed;
-        skipped = subst (λ b. MatchBool b (HasSkippedOf r read) (HasNoSkipped read)) (sym listed) has.none;
+      let has = skipped_unlisted read.lists.left_out ms read refl (is.entries, is.skipped) in record {
+        lists = has.0 ∙ sym listed;
+        skipped = subst (λ b. MatchBool b (HasSkippedOf r read) (HasNoSkipped read)) (sym listed) has.1;
       }
 
 -- ---- files
 
 files_shown : (attributes : List (List ℕ)) (fs : List FileLineModel) → All FitsFile fs
     → All (λ (f : FileLineModel). length f.asked ≡ length attributes) fs → All (ShowsFile attributes) fs
-files_shown attributes fs fits states =
-    let S : FileLineModel → Type 0 = λ f. length f.asked ≡ length attributes in
-    All-from_recursion (ShowsFile attributes) fs (both fs (recursion_from_All FitsFile fs fits) (recursion_from_All S fs states))
-  where
-    both : (gs : List FileLineModel) → AllByRecursion FitsFile gs
-        → AllByRecursion (λ (f : FileLineModel). length f.asked ≡ length attributes) gs → AllByRecursion (ShowsFile attributes) gs
-    both [] p q = tt
-    both (g ∷ gs) p q = (record { fits = p.0; states = q.0 }, both gs p.1 q.1)
+files_shown attributes fs fits states = grind (arith, common_steps, recursion_from_All)
 
 -- ---- the whole report
 
@@ -189,17 +147,17 @@ module _ (options : TableOptions) (attributes : List (List ℕ)) (r : Report) (r
       listed.1))
       listed.1.order in
       let skipped : SkippedReadBack r read = skipped_back r read fits read_fits whole.skipped attributes parts r.lists.left_out refl is in
+      let fit = fits_both r.totals r.classes.text r.classes.binary whole.adds_up.classes fits.totals in
+      let read_fit = fits_both read.totals read.classes.text read.classes.binary is.adds_up.classes read_fits.totals in
       let directories : r.directories < 2 ^ 64 = fits.directories in
       let read_directories : read.directories < 2 ^ 64 = read_fits.directories in record {
         totals = sums_read_back parts.form (codes "total") r.totals read.totals member.Total members printed.total fits.totals
             read_fits.totals is.total;
         classes = same_classes read.classes r.classes
-            (sums_read_back parts.form (codes "text") r.classes.text read.classes.text member.Text members printed.text
-            (fits_left r.totals r.classes.text r.classes.binary whole.adds_up.classes fits.totals)
-            (fits_left read.totals read.classes.text read.classes.binary is.adds_up.classes read_fits.totals) is.text)
+            (sums_read_back parts.form (codes "text") r.classes.text read.classes.text member.Text members printed.text fit.0
+            read_fit.0 is.text)
             (sums_read_back parts.form (codes "binary") r.classes.binary read.classes.binary member.Binary members printed.binary
-            (fits_right r.totals r.classes.text r.classes.binary whole.adds_up.classes fits.totals)
-            (fits_right read.totals read.classes.text read.classes.binary is.adds_up.classes read_fits.totals) is.binary);
+            fit.1 read_fit.1 is.binary);
         directories = same_integer r.directories read.directories (omega arith) (omega arith)
             (sym printed.directories ∙ is.directories);
         lists = same_lists read.lists r.lists (listed.0 ∙ sym whole.lists_files) skipped.lists;

@@ -1,12 +1,11 @@
 -- Words that are read: each is that of one value.
-use Rattle.std.proofs.Common.{◌≡◌, ◌∙◌, ℕ, Bool, false, List, [], ◌∷◌, Option, Some, None, codes, refl, sym, ap, find, bytes_eq, is_some}
+use Rattle.std.proofs.Common.{arith, ◌≡◌, ◌∙◌, ℕ, Bool, false, List, [], ◌∷◌, Option, Some, None, codes, refl, sym, ap, find, bytes_eq}
+use Rattle.std.proofs.{Common.is_some, lemmas.Grind.common_steps}
 use Rattle.lc_census.specs.{EolWords.eol_word, declared.line_count.Eol.{Eol, TheVariants.{NoEnd, Lf, CrLf, Cr, Mixed, Nul}}}
-use Rattle.lc_level.specs.{FaultWords.fault_word, Level.{Reason, named_git, by_rule, by_attribute, not_included, other_kind}}
-use Rattle.lc_level.specs.{ReasonWords.{attribute_of, reason_word, rule_of}, declared.fault_word.FaultWord.FaultWord}
-use Rattle.lc_level.specs.declared.fault_word.FaultWord.TheVariants.{Read, Name, Twice, Many, Long, Endless, Absent}
+use Rattle.lc_level.specs.{FaultWords.fault_word, Level.Reason, ReasonWords.{attribute_of, reason_word, rule_of}}
+use Rattle.lc_level.specs.{declared.fault_word.FaultWord.{FaultWord, TheVariants.{Read, Name, Twice, Many, Long, Endless, Absent}}}
 use Rattle.lc_reading.specs.Lines.{word_json}
 use Rattle.lc_rules.specs.{TextWords.text_word, declared.states.TextState.{TextState, TheVariants.{Set, Unset, Auto, Other, Unspecified}}}
-use Rattle.lc_tree.specs.declared.entry.OtherKind.TheVariants.{Special, Mounted}
 
 -- a value that is found again by its word is the only one of it
 only_one : {A W : Type 0} (word : A → W) (back : W → Option A) → ((a : A) → back (word a) ≡ Some a) → (a b : A) → word a ≡ word b → a ≡ b
@@ -19,12 +18,7 @@ eol_back w = find (λ e. bytes_eq (eol_word e) w) (NoEnd ∷ Lf ∷ CrLf ∷ Cr 
 
 each_eol : (e : Eol) → eol_back (eol_word e) ≡ Some e
 unfolding eol_back
-each_eol NoEnd = refl
-each_eol Lf = refl
-each_eol CrLf = refl
-each_eol Cr = refl
-each_eol Mixed = refl
-each_eol Nul = refl
+each_eol e = grind (arith, common_steps, eol_back)
 
 pub same_eol : (a b : Eol) → eol_word a ≡ eol_word b → a ≡ b
 same_eol = only_one eol_word eol_back each_eol
@@ -36,13 +30,7 @@ fault_back w = find (λ f. bytes_eq (fault_word f) w) (Read ∷ Name ∷ Twice �
 
 each_fault : (f : FaultWord) → fault_back (fault_word f) ≡ Some f
 unfolding fault_back
-each_fault Read = refl
-each_fault Name = refl
-each_fault Twice = refl
-each_fault Many = refl
-each_fault Long = refl
-each_fault Endless = refl
-each_fault Absent = refl
+each_fault f = grind (arith, common_steps, fault_back)
 
 pub same_fault : (a b : FaultWord) → fault_word a ≡ fault_word b → a ≡ b
 same_fault = only_one fault_word fault_back each_fault
@@ -63,16 +51,10 @@ state_back (Some w) = find (λ t. is_word t) (Set ∷ Unset ∷ Auto ∷ Other �
 each_state : (t : TextState) → state_back (text_word t) ≡ Some t
 unfolding state_back
 each_state Set = refl
-each_state Unset = refl
-each_state Auto = refl
-each_state Other = refl
-each_state Unspecified = refl
+each_state t = refl
 
 same_word : (a b : Option (List ℕ)) → word_json a ≡ word_json b → a ≡ b
-same_word None None e = refl
-same_word None (Some w) e = absurd (cc)
-same_word (Some v) None e = absurd (cc)
-same_word (Some v) (Some w) e = let same : v ≡ w = cc in ap Some same
+same_word a b e = grind (arith, common_steps)
 
 pub same_state : (a b : TextState) → word_json (text_word a) ≡ word_json (text_word b) → a ≡ b
 same_state a b e = only_one text_word state_back each_state a b (same_word (text_word a) (text_word b) e)
@@ -81,20 +63,10 @@ same_state a b e = only_one text_word state_back each_state a b (same_word (text
 
 -- whether a rule, or an attribute, is the reason shows in its word
 rule_shown : (r : Reason) → is_some (rule_of r) ≡ bytes_eq (reason_word r) (codes "rule")
-rule_shown named_git = refl
-rule_shown (by_rule source line) = refl
-rule_shown (by_attribute w) = refl
-rule_shown not_included = refl
-rule_shown (other_kind Special) = refl
-rule_shown (other_kind Mounted) = refl
+rule_shown r = grind (arith, common_steps)
 
 attribute_shown : (r : Reason) → is_some (attribute_of r) ≡ bytes_eq (reason_word r) (codes "attribute")
-attribute_shown named_git = refl
-attribute_shown (by_rule source line) = refl
-attribute_shown (by_attribute w) = refl
-attribute_shown not_included = refl
-attribute_shown (other_kind Special) = refl
-attribute_shown (other_kind Mounted) = refl
+attribute_shown r = grind (arith, common_steps)
 
 pub both_by_rule : (a b : Reason) → reason_word a ≡ reason_word b → is_some (rule_of a) ≡ is_some (rule_of b)
 both_by_rule a b e = rule_shown a ∙ ap (λ w. bytes_eq w (codes "rule")) e ∙ sym (rule_shown b)

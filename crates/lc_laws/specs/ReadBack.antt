@@ -62,7 +62,7 @@ pub record SkippedTextModel : Type 0 where
   pub line : Option ℕ
   pub attribute : Option (List ℕ)
 
--- the file of a rule that decides a path
+-- the path of the file that has the rule for a path, or the name of the option that has it
 abbrev pub file_of_rule : List ℕ → RuleSource × ℕ → List ℕ
 file_of_rule path rule = source_directory path rule.0 ++ source_name rule.0
 
