@@ -5,3 +5,4 @@ mod chains;
 mod deciding;
 mod ignore;
 mod matchable;
+mod rows;

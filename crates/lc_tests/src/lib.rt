@@ -5,10 +5,12 @@
 //! - `trees`: trees that pass calls on to another tree
 //! - `sketch`: trees in memory, made from a text that lists their entries
 //! - `sketch_table`: trees in memory, made from a constant table
+//! - `files`: lines of files, made from constant tables
 //! - `request`: what a user requests, read from options as on a command line
-//! - `lines`: what a walk finds, in the words that `lc count` prints
+//! - `lines`: words for what a walk finds, in which tests write their expected results
 #![tactic(auto)]
 
+mod files;
 mod lines;
 pub mod readers;
 mod request;
@@ -17,7 +19,11 @@ mod sketch_table;
 pub mod trees;
 pub mod writers;
 
-pub use lines::{eol_of_word, has_words, push_kind, push_name, push_reason, text_of_word};
+pub use files::{File, FileOfStates, file_lines, lines_of_states};
+pub use lines::{
+    cut, eol_of_word, has_words, push_faults, push_kind, push_name, push_reason, push_skipped,
+    text_of_word,
+};
 pub use request::Asked;
-pub use sketch::tree;
+pub use sketch::{numbered_files, tree};
 pub use sketch_table::Sketch;

@@ -1,7 +1,8 @@
-//! What a walk finds, in the words that `lc count` prints.
+//! Words for what a walk finds, in which tests write their expected results. Most are words that `lc count` prints. Directories of rule
+//! files, kinds of entries, and names that are not UTF-8 are written in another way.
 
 use lc_census::Eol;
-use lc_level::Reason;
+use lc_level::{FaultLine, Reason, SkippedLine};
 use lc_rules::{RuleSource, TextState};
 use lc_tree::{Kind, OtherKind};
 use std::alloc::AllocError;
@@ -50,22 +51,18 @@ pub fn push_kind(text: &mut String, kind: Kind) -> Result<(), AllocError> {
     }
 }
 
-/// Appends a file's name to a text, after a `*/` for each directory above the file.
-fn push_below(text: &mut String, depth: u32, name: &str) -> Result<(), AllocError> {
+/// Appends the name of a rule's file to a text, after a `*/` for each directory above the file.
+fn push_source(text: &mut String, source: RuleSource) -> Result<(), AllocError> {
+    let (depth, name) = match source {
+        RuleSource::ExcludeFrom => (0, "--exclude-from"),
+        RuleSource::InfoExclude(depth) => (depth, ".git/info/exclude"),
+        RuleSource::Gitignore(depth) => (depth, ".gitignore"),
+        RuleSource::CommandLine => (0, "--exclude"),
+    };
     for _ in 0..depth {
         text.push_str("*/")?;
     }
     text.push_str(name)
-}
-
-/// Appends the name of a rule's file to a text, after a `*/` for each directory above the file.
-fn push_source(text: &mut String, source: RuleSource) -> Result<(), AllocError> {
-    match source {
-        RuleSource::ExcludeFrom => text.push_str("--exclude-from"),
-        RuleSource::InfoExclude(depth) => push_below(text, depth, ".git/info/exclude"),
-        RuleSource::Gitignore(depth) => push_below(text, depth, ".gitignore"),
-        RuleSource::CommandLine => text.push_str("--exclude"),
-    }
 }
 
 /// Appends to a text the reason for which an entry is skipped.
@@ -85,6 +82,36 @@ pub fn push_reason(text: &mut String, reason: &Reason) -> Result<(), AllocError>
         Reason::OtherKind(OtherKind::Special) => text.push_str("other"),
         Reason::OtherKind(OtherKind::Mounted) => text.push_str("filesystem"),
     }
+}
+
+/// Appends a line for each skipped entry: `left`, the reason, and the entry's path with the mark of its kind.
+pub fn push_skipped(text: &mut String, skipped: &[SkippedLine]) -> Result<(), AllocError> {
+    for entry in skipped {
+        text.push_str("left ")?;
+        push_reason(text, &entry.reason)?;
+        text.push_str(" ")?;
+        push_name(text, &entry.path)?;
+        push_kind(text, entry.kind)?;
+        text.push_str("\n")?;
+    }
+    Ok(())
+}
+
+/// Appends a line for each error: `fault`, the word for the error, and its path.
+pub fn push_faults(text: &mut String, faults: &[FaultLine]) -> Result<(), AllocError> {
+    for fault in faults {
+        let word = fault.word.as_str();
+        write!(text, "fault {word} ")?;
+        push_name(text, &fault.path)?;
+        text.push_str("\n")?;
+    }
+    Ok(())
+}
+
+/// Splits a text at its first `|`. Returns both parts without the spaces around them.
+pub fn cut(text: &str) -> (&str, &str) {
+    let (first, rest) = text.split_once('|').unwrap_or((text, ""));
+    (first.trim(), rest.trim())
 }
 
 fn without_comma(word: &str) -> &str {

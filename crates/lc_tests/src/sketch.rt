@@ -100,3 +100,20 @@ pub fn tree(alloc: Global, sketch: &str) -> Result<Node, AllocError> {
         None => Ok(Node::Dir(Vec::new(alloc))),
     }
 }
+
+/// Returns a directory of this many files, whose names are numbers from 10,000 on. Each has its name as its bytes, and one of `period`
+/// files fails instead of ending.
+pub fn numbered_files(alloc: Global, count: u16, period: u16) -> Result<Node, AllocError> {
+    let mut entries = Vec::new(alloc);
+    for number in 0..count {
+        let name = format!(in alloc; "{}", 10_000 + u32::from(number))?.into_bytes();
+        let bytes = name.to_vec(alloc)?;
+        let node = if number % period.max(1) == period / 2 {
+            Node::Failing(bytes)
+        } else {
+            Node::File(bytes)
+        };
+        entries.push((name, node))?;
+    }
+    Ok(Node::Dir(entries))
+}

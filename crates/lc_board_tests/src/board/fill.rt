@@ -1,5 +1,4 @@
-//! Tests in which worker threads fill a board with directories. The jobs of all directories share two values of the struct `Rules` of this
-//! module, each through an `Arc`.
+//! Tests in which worker threads fill a board with directories. The jobs of all directories share two values, each through an `Arc`.
 ghost use Rattle.std.specs.Prelude.{◌≡◌, ◌≢◌, ◌≤◌, ◌<◌, ℕ, None, IfOk, slice_index_or, vec_len};
 ghost use Rattle.lc_board.specs.Pass.{holding};
 ghost use Rattle.lc_board.specs.Limits.{capacity_limit, workers_limit};
@@ -19,18 +18,12 @@ const CHILDREN: u8 = 3;
 /// newest child directories first.
 const DEPTH: usize = 16;
 
-/// A value that the jobs of all directories share.
-#[derive(Drop)]
-struct Rules {
-    lines: Vec<u8>,
-}
-
 /// A directory to be read.
 #[derive(Drop)]
 struct Job {
     path: Vec<u8>,
-    ignored: Arc<Rules>,
-    attributes: Arc<Rules>,
+    ignored: Arc<Vec<u8>>,
+    attributes: Arc<Vec<u8>>,
 }
 
 /// A directory that was read: its number on the board, and its job.
@@ -42,22 +35,10 @@ struct Row {
 
 impl Job {
     fn top(alloc: Global) -> Result<Job, AllocError> {
-        let ignored = Arc::new(
-            alloc,
-            Rules {
-                lines: Vec::new(alloc),
-            },
-        )?;
-        let attributes = Arc::new(
-            alloc,
-            Rules {
-                lines: Vec::new(alloc),
-            },
-        )?;
         Ok(Job {
             path: Vec::new(alloc),
-            ignored,
-            attributes,
+            ignored: Arc::new(alloc, Vec::new(alloc))?,
+            attributes: Arc::new(alloc, Vec::new(alloc))?,
         })
     }
 

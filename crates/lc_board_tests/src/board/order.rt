@@ -2,7 +2,7 @@
 ghost use Rattle.std.specs.Prelude.{◌≤◌};
 ghost use Rattle.lc_board.specs.Limits.{capacity_limit};
 
-use crate::board::script::{Call, ROOT, Told, has_rows};
+use crate::board::script::{Call, ROOT, Told, ends_so};
 use crate::board::shared_scripts::run;
 use lc_board::{Ended, Words};
 use std::alloc::{AllocError, Global};
@@ -69,7 +69,7 @@ fn claims_so<R: Wait + Abort>(
     requires { (1 ≤ capacity) × (capacity ≤ capacity_limit) }
 {
     let closed = run::<Words<u32, u32>, R>(rt, alloc, capacity, 2, script)?;
-    has_rows(rt, closed, &own_rows(alloc, capacity)?)
+    ends_so(rt, closed, Ok(&own_rows(alloc, capacity)?))
 }
 
 #[test]

@@ -60,13 +60,12 @@ fn run<R: Abort>(
 
 /// Runs a script, and checks that each call and the closing of the board have the results that the script expects.
 fn check<R: Abort>(rt: &R, alloc: Global, script: &Script) -> Result<(), AllocError> {
-    let capacity = script.capacity;
-    let workers = script.workers;
+    let (capacity, workers, calls, end) = *script;
     assert!(rt;
         1 <= capacity && capacity <= MAX_CAPACITY && 1 <= workers && workers <= MAX_WORKERS
     );
-    let closed = run(rt, alloc, capacity, workers, script.calls)?;
-    ends_so(rt, closed, &script.end)
+    let closed = run(rt, alloc, capacity, workers, calls)?;
+    ends_so(rt, closed, end)
 }
 
 #[test]
@@ -76,6 +75,6 @@ fn scripts_on_plain(rt: HostRuntime) -> Result<(), Fail> {
         check(&rt, alloc, script)?;
     }
     let filled = run(&rt, alloc, MANY, 1, &filling(alloc, MANY)?)?;
-    assert!(rt; filled == Err(CloseFault::Unfinished(1)));
+    ends_so(&rt, filled, Err(CloseFault::Unfinished(1)))?;
     Ok(())
 }

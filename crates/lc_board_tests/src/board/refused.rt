@@ -1,6 +1,6 @@
 //! A test in which allocations of a locked board may fail. A call that fails does not change the worker's claim, and succeeds when it is
 //! made again with enough memory.
-use crate::board::script::{Call, ROOT, Told, says};
+use crate::board::script::{Call, ROOT, Told, filling, says};
 use crate::board::shared_scripts::tell;
 use lc_board::{Locked, LockedPass, Shared, Token};
 use std::alloc::Global;
@@ -8,19 +8,10 @@ use std::process::Abort;
 use std::sync::Wait;
 use std::test::Fail;
 
-/// Checks that after the call the pass has claimed the directory with the number `holding`, or none. Also checks that the pass has added
-/// `posted` child directories under this claim.
-fn stands<R: Abort>(
-    rt: &R,
-    call: Call,
-    pass: &LockedPass<u32, u32>,
-    holding: Option<u32>,
-    posted: u32,
-) {
-    assert!(rt;
-        pass.holding() == holding && pass.posted() == posted,
-        "{call:?}"
-    );
+/// Checks that after the call the pass has claimed the directory with this number, or none, and has added so many child directories under
+/// this claim.
+fn stands<R: Abort>(rt: &R, call: Call, pass: &LockedPass<u32, u32>, left: (Option<u32>, u32)) {
+    assert!(rt; (pass.holding(), pass.posted()) == left, "{call:?}");
 }
 
 /// Returns what a call returns if its allocation fails. `None` means that the call does not allocate.
@@ -39,28 +30,24 @@ fn tell_again<R: Wait + Abort>(
     pass: &mut LockedPass<u32, u32>,
     call: Call,
 ) -> Told {
-    let holding = pass.holding();
-    let posted = pass.posted();
+    let left = (pass.holding(), pass.posted());
     let answer = tell(rt, board, pass, call);
     if Some(answer) != refusal(call) {
         return answer;
     }
-    stands(rt, call, pass, holding, posted);
+    stands(rt, call, pass, left);
     tell(rt, board, pass, call)
 }
 
-/// Makes a call, and checks that it returns `told`. Then checks that the pass has claimed the directory `left.0`, or none, and has added
-/// `left.1` child directories under this claim.
-fn leaves<R: Wait + Abort>(
-    rt: &R,
-    board: &Locked<u32, u32>,
-    pass: &mut LockedPass<u32, u32>,
-    call: Call,
-    told: Told,
-    left: (Option<u32>, u32),
-) {
-    says(rt, call, tell_again(rt, board, pass, call), told);
-    stands(rt, call, pass, left.0, left.1);
+/// Returns the number of the directory that a worker has claimed after a call of the test's script, and how many child directories the
+/// worker has then added.
+fn left(told: Told) -> (Option<u32>, u32) {
+    match told {
+        Told::Got(number, _) => (Some(number), 0),
+        Told::Posted(number) => (Some(0), number),
+        Told::Full(_) => (Some(0), 63),
+        _ => (None, 0),
+    }
 }
 
 #[test]
@@ -68,33 +55,9 @@ fn refused_claim_and_post(rt: HostRuntime) -> Result<(), Fail> {
     let alloc: Global = rt.alloc();
     let (board, mut passes) = Locked::<u32, u32>::start(alloc, 64, 1, ROOT)?;
     let pass = &mut passes[0];
-    leaves(
-        &rt,
-        &board,
-        pass,
-        Call::Claim(0),
-        Told::Got(0, ROOT),
-        (Some(0), 0),
-    );
-    for number in 1..64u32 {
-        let post = Call::Post(0, number + 100);
-        leaves(
-            &rt,
-            &board,
-            pass,
-            post,
-            Told::Posted(number),
-            (Some(0), number),
-        );
+    for (call, told) in &filling(alloc, 64)? {
+        says(&rt, *call, tell_again(&rt, &board, pass, *call), *told);
+        stands(&rt, *call, pass, left(*told));
     }
-    leaves(
-        &rt,
-        &board,
-        pass,
-        Call::Post(0, 1),
-        Told::Full(1),
-        (Some(0), 63),
-    );
-    leaves(&rt, &board, pass, Call::Give(0, 5), Told::Done, (None, 0));
     Ok(())
 }

@@ -4,6 +4,7 @@ ghost use Rattle.std.specs.Prelude.{◌≡◌, ◌<◌};
 
 use crate::board::script::{Call, ROOT, Told};
 use crate::board::shared_scripts::tell;
+use lc_board::Ended::Returned;
 use lc_board::{CloseFault, Closed, Ended, Locked, Shared, Token, Words};
 use std::alloc::{AllocError, Global};
 use std::process::Abort;
@@ -16,18 +17,10 @@ const NAMED: u32 = 14;
 const CALLS: u32 = 36;
 
 /// The expected rows if the third directory is a child of the root.
-const BY_ROOT: &[Ended<u32>] = &[
-    Ended::Returned(ROOT),
-    Ended::Returned(0),
-    Ended::Returned(0),
-];
+const BY_ROOT: &[Ended<u32>] = &[Returned(ROOT), Returned(0), Returned(0)];
 
 /// The expected rows if the third directory is a child of the second directory.
-const BY_OTHER: &[Ended<u32>] = &[
-    Ended::Returned(ROOT),
-    Ended::Returned(0),
-    Ended::Returned(1),
-];
+const BY_OTHER: &[Ended<u32>] = &[Returned(ROOT), Returned(0), Returned(1)];
 
 /// What a worker remembers between two calls.
 #[derive(Clone, Copy, Drop)]

@@ -1,4 +1,5 @@
 //! Scripts for the tests of boards: which worker makes which call, and what each call must return.
+use lc_board::Ended::Returned;
 use lc_board::{Claim, CloseFault, Closed, Ended, PostFault};
 use std::alloc::{AllocError, Global};
 use std::process::Abort;
@@ -82,42 +83,29 @@ pub fn answers<R: Abort>(rt: &R, call: Call, answer: Told, told: Told) -> Result
     Ok(())
 }
 
-/// Checks that `closed`, the result of closing a board, has the expected rows, `rows`. If `closed` is `CloseFault::Memory`, returns an
-/// error and checks nothing.
-pub fn has_rows<R: Abort>(
-    rt: &R,
-    closed: Result<Closed<u32>, CloseFault>,
-    rows: &[Ended<u32>],
-) -> Result<(), AllocError> {
-    match closed {
-        Ok(closed) => assert!(rt; closed.rows.as_slice() == rows),
-        Err(CloseFault::Memory) => return Err(AllocError),
-        Err(fault) => assert!(rt; false, "{fault:?}"),
-    }
-    Ok(())
-}
-
 /// Checks that `closed`, the result of closing a board, is the expected result `end`. If rows are expected and `closed` is
 /// `CloseFault::Memory`, returns an error and checks nothing.
 pub fn ends_so<R: Abort>(
     rt: &R,
     closed: Result<Closed<u32>, CloseFault>,
-    end: &Result<&'static [Ended<u32>], CloseFault>,
+    end: Result<&[Ended<u32>], CloseFault>,
 ) -> Result<(), AllocError> {
-    match end {
-        Ok(rows) => has_rows(rt, closed, rows),
-        Err(fault) => {
-            assert!(rt; closed == Err(*fault), "{fault:?}");
-            Ok(())
-        }
+    let found = match &closed {
+        Ok(closed) => Ok(closed.rows.as_slice()),
+        Err(fault) => Err(*fault),
+    };
+    if end.is_ok() && found == Err(CloseFault::Memory) {
+        return Err(AllocError);
     }
+    assert!(rt; found == end, "{found:?}, not {end:?}");
+    Ok(())
 }
 
 /// The expected rows of the script `TWO_WORKERS`.
-const TWO_ROWS: &[Ended<u32>] = &[Ended::Returned(10), Ended::Returned(11)];
+const TWO_ROWS: &[Ended<u32>] = &[Returned(10), Returned(11)];
 
 /// The expected row of the script `FULL`.
-const RETURNED: &[Ended<u32>] = &[Ended::Returned(10)];
+const RETURNED: &[Ended<u32>] = &[Returned(10)];
 
 /// The expected row of the script `FAULT`, in which the root's row reports an error.
 pub const FAULTED: &[Ended<u32>] = &[Ended::Faulted(10)];
@@ -175,46 +163,23 @@ const LAST_NUMBER: &[(Call, Told)] = &[
 ];
 
 /// The expected rows of the script `LAST_NUMBER`.
-const THREE_ROWS: &[Ended<u32>] = &[
-    Ended::Returned(10),
-    Ended::Returned(11),
-    Ended::Returned(12),
-];
+const THREE_ROWS: &[Ended<u32>] = &[Returned(10), Returned(11), Returned(12)];
 
-/// A script: the size of a board, the calls on the board, what each call must return, and the expected result of closing the board.
-pub struct Script {
-    pub capacity: u32,
-    pub workers: u32,
-    pub calls: &'static [(Call, Told)],
-    pub end: Result<&'static [Ended<u32>], CloseFault>,
-}
+/// A script: the capacity of a board and the number of its workers, the calls on the board, what each call must return, and the expected
+/// result of closing the board.
+pub type Script = (
+    u32,
+    u32,
+    &'static [(Call, Told)],
+    Result<&'static [Ended<u32>], CloseFault>,
+);
 
 /// The scripts that run on each type of board.
 pub const SCRIPTS: &[Script] = &[
-    Script {
-        capacity: 2,
-        workers: 2,
-        calls: TWO_WORKERS,
-        end: Ok(TWO_ROWS),
-    },
-    Script {
-        capacity: 3,
-        workers: 2,
-        calls: LAST_NUMBER,
-        end: Ok(THREE_ROWS),
-    },
-    Script {
-        capacity: 1,
-        workers: 1,
-        calls: FULL,
-        end: Ok(RETURNED),
-    },
-    Script {
-        capacity: 2,
-        workers: 1,
-        calls: OWN_POST,
-        end: Err(CloseFault::Unfinished(1)),
-    },
+    (2, 2, TWO_WORKERS, Ok(TWO_ROWS)),
+    (3, 2, LAST_NUMBER, Ok(THREE_ROWS)),
+    (1, 1, FULL, Ok(RETURNED)),
+    (2, 1, OWN_POST, Err(CloseFault::Unfinished(1))),
 ];
 
 /// A capacity that does not fit in 16 bits.
@@ -226,7 +191,8 @@ pub fn filling(alloc: Global, capacity: u32) -> Result<Vec<(Call, Told)>, AllocE
     let mut script = Vec::new(alloc);
     script.push((Call::Claim(0), Told::Got(0, ROOT)))?;
     for number in 1..capacity {
-        script.push((Call::Post(0, number), Told::Posted(number)))?;
+        let post = Call::Post(0, number.wrapping_add(100));
+        script.push((post, Told::Posted(number)))?;
     }
     script.push((Call::Post(0, 0), Told::Full(0)))?;
     script.push((Call::Give(0, 10), Told::Done))?;

@@ -3,7 +3,7 @@ ghost use Rattle.std.specs.Prelude.{◌≡◌, ◌≤◌, ◌<◌, Some};
 ghost use Rattle.lc_board.specs.Limits.{capacity_limit, workers_limit};
 
 use crate::board::script::{
-    Call, FAULT, FAULTED, MANY, ROOT, SCRIPTS, Script, Told, answers, ends_so, filling, has_rows,
+    Call, FAULT, FAULTED, MANY, ROOT, SCRIPTS, Script, Told, answers, ends_so, filling,
 };
 use lc_board::limits::{MAX_CAPACITY, MAX_WORKERS};
 use lc_board::{CloseFault, Closed, Locked, Shared, Token, Words};
@@ -75,13 +75,12 @@ fn check<B: Shared<u32, u32>, R: Wait + Abort>(
     alloc: Global,
     script: &Script,
 ) -> Result<(), AllocError> {
-    let capacity = script.capacity;
-    let workers = script.workers;
+    let (capacity, workers, calls, end) = *script;
     assert!(rt;
         1 <= capacity && capacity <= MAX_CAPACITY && 1 <= workers && workers <= MAX_WORKERS
     );
-    let closed = run::<B, R>(rt, alloc, capacity, workers, script.calls)?;
-    ends_so(rt, closed, &script.end)
+    let closed = run::<B, R>(rt, alloc, capacity, workers, calls)?;
+    ends_so(rt, closed, end)
 }
 
 /// Runs each script on a new board of this type.
@@ -92,10 +91,9 @@ fn scripts_on<B: Shared<u32, u32>, R: Wait + Abort>(
     for script in SCRIPTS {
         check::<B, R>(rt, alloc, script)?;
     }
-    has_rows(rt, run::<B, R>(rt, alloc, 1, 1, FAULT)?, FAULTED)?;
+    ends_so(rt, run::<B, R>(rt, alloc, 1, 1, FAULT)?, Ok(FAULTED))?;
     let filled = run::<B, R>(rt, alloc, MANY, 1, &filling(alloc, MANY)?)?;
-    assert!(rt; filled == Err(CloseFault::Unfinished(1)));
-    Ok(())
+    ends_so(rt, filled, Err(CloseFault::Unfinished(1)))
 }
 
 #[test]

@@ -52,7 +52,7 @@ fn is_counted(case: &Case) -> bool {
     counted_by_bytes(bytes) == want && counted_by_reads(bytes) == Ok(want)
 }
 
-const CRLF_OVER_THE_EDGE: &[u8] =
+const EDGE: &[u8] =
     b"012345678901234567890123456789012345678901234567890123456789012\r\n \t\r\n\t x\r\n \n\r\n\
       0123456789012345678901234567890123456789012345678901234567890\r\n  ";
 
@@ -78,13 +78,7 @@ const CASES: &[Case] = &[
     ("two lines", b"one\r\ntwo\r\n", 2, 0, Eol::CrLf),
     ("a form feed is no space", b"\x0c\n", 1, 0, Eol::Lf),
     ("a no-break space is no space", b"\xc2\xa0\n", 1, 0, Eol::Lf),
-    (
-        "ends at a vector's edge",
-        CRLF_OVER_THE_EDGE,
-        7,
-        4,
-        Eol::Mixed,
-    ),
+    ("ends at a vector's edge", EDGE, 7, 4, Eol::Mixed),
     ("a blank line over two vectors", SPACES, 2, 2, Eol::Lf),
     ("a NUL past a vector", NUL, 1, 0, Eol::Nul),
 ];

@@ -2,6 +2,7 @@ use lc_census::{CensusFault, Count, Eol, MAX_TURNS, count, count_source, count_w
 use lc_io::{Source, StdSource};
 use lc_tests::readers::{Bytewise, Counted, Endless, Failing};
 use std::alloc::{AllocError, Global};
+use std::io::ErrorKind::{Interrupted, Other, WouldBlock};
 use std::io::{Error, ErrorKind, Read, Result as IoResult};
 use std::test::Fail;
 
@@ -154,25 +155,13 @@ const WHOLE: Outcome = Ok(Count {
 
 /// The name of a case, the `kind` and the `period` of its `Failings`, the expected result, and the expected number of reads.
 const ERRORS: &[(&str, ErrorKind, u64, Outcome, u64)] = &[
-    ("never interrupted", ErrorKind::Interrupted, 1, WHOLE, 5),
-    ("once a byte", ErrorKind::Interrupted, 2, WHOLE, 10),
-    ("999 times", ErrorKind::Interrupted, 1_000, WHOLE, 5_000),
-    (
-        "65,535 times",
-        ErrorKind::Interrupted,
-        65_536,
-        WHOLE,
-        327_680,
-    ),
-    (
-        "65,536 times",
-        ErrorKind::Interrupted,
-        65_537,
-        FAILED,
-        65_536,
-    ),
-    ("would block", ErrorKind::WouldBlock, 2, FAILED, 1),
-    ("another error", ErrorKind::Other, 2, FAILED, 1),
+    ("never interrupted", Interrupted, 1, WHOLE, 5),
+    ("once a byte", Interrupted, 2, WHOLE, 10),
+    ("999 times", Interrupted, 1_000, WHOLE, 5_000),
+    ("65,535 times", Interrupted, 65_536, WHOLE, 327_680),
+    ("65,536 times", Interrupted, 65_537, FAILED, 65_536),
+    ("would block", WouldBlock, 2, FAILED, 1),
+    ("another error", Other, 2, FAILED, 1),
 ];
 
 #[test]

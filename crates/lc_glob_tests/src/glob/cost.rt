@@ -87,23 +87,15 @@ type Hostile = (Repeated, Repeated, (bool, u64));
 
 const NAME: Repeated = (b"", b"a", 4096, b"");
 
+const SHORTER: Repeated = (b"", b"a", 4000, b"");
+
+const DEEP: Repeated = (b"a", b"/a", 2047, b"");
+
 const HOSTILE: &[Hostile] = &[
     // many stars cost no more than the bound
-    (
-        (b"", b"*a", 4, b"*b"),
-        (b"", b"a", 4000, b""),
-        (false, 44_011),
-    ),
-    (
-        (b"", b"*a", 4, b"*b*"),
-        (b"", b"a", 4000, b""),
-        (false, 48_012),
-    ),
-    (
-        (b"", b"**/a/", 2000, b"b"),
-        (b"a", b"/a", 2047, b""),
-        (false, 40_968_192),
-    ),
+    ((b"", b"*a", 4, b"*b"), SHORTER, (false, 44_011)),
+    ((b"", b"*a", 4, b"*b*"), SHORTER, (false, 48_012)),
+    ((b"", b"**/a/", 2000, b"b"), DEEP, (false, 40_968_192)),
     ((b"", b"*", 1_048_576, b""), NAME, (true, u64::MAX)),
     // literals after the last star are compared once
     ((b"*", b"a", 1000, b""), NAME, (true, 1002)),
@@ -127,50 +119,22 @@ fn hostile_patterns_cost_no_more_than_the_bound(rt: HostRuntime) -> Result<(), F
     Ok(())
 }
 
-/// A pattern, a path over 256 bytes long, whether they match, and the greatest allowed number of byte tests. The names above the last need
-/// no test if none of them is short or long enough for some segment of the pattern.
-const LONG_NAMES: &[(&'static [u8], Repeated, (bool, u64))] = &[
-    (
-        b"**/?/**",
-        (b"", b"fifteen-letters/", 20, b"a.c"),
-        (false, 0),
-    ),
-    (
-        b"**/?/**",
-        (b"", b"fifteen-letters/", 20, b"a/b"),
-        (true, 21),
-    ),
-    (
-        b"**/src/**",
-        (b"", b"fifteen-letters/", 20, b"a.c"),
-        (false, 0),
-    ),
-    (
-        b"**/src/**",
-        (b"", b"fifteen-letters/", 20, b"src/a"),
-        (true, 3),
-    ),
-    (
-        b"**/*?fifteen-letters/**",
-        (b"", b"fifteen-letters/", 20, b"a.c"),
-        (false, 0),
-    ),
-    (
-        b"**/*?fifteen-letters/**",
-        (b"not-", b"fifteen-letters/", 20, b"a.c"),
-        (true, 16),
-    ),
-    (
-        b"**/?/a.c",
-        (b"", b"fifteen-letters/", 20, b"a.c"),
-        (false, 4),
-    ),
+/// A pattern, the beginning and the end of a path that has 20 long names between them, whether they match, and the greatest allowed number
+/// of byte tests. The names above the last need no test if none of them is short or long enough for some segment of the pattern.
+const LONG_NAMES: &[(&'static [u8], &'static [u8], &'static [u8], (bool, u64))] = &[
+    (b"**/?/**", b"", b"a.c", (false, 0)),
+    (b"**/?/**", b"", b"a/b", (true, 21)),
+    (b"**/src/**", b"", b"a.c", (false, 0)),
+    (b"**/src/**", b"", b"src/a", (true, 3)),
+    (b"**/*?fifteen-letters/**", b"", b"a.c", (false, 0)),
+    (b"**/*?fifteen-letters/**", b"not-", b"a.c", (true, 16)),
+    (b"**/?/a.c", b"", b"a.c", (false, 4)),
 ];
 
 #[test]
 fn names_of_other_lengths_are_rejected_at_a_look(rt: HostRuntime) -> Result<(), Fail> {
-    for (pattern, path, answer) in LONG_NAMES {
-        let path = repeated(rt.alloc(), *path)?;
+    for (pattern, first, last, answer) in LONG_NAMES {
+        let path = repeated(rt.alloc(), (first, b"fifteen-letters/", 20, last))?;
         check(&rt, rt.alloc(), pattern, &path, *answer)?;
         let candidate = Candidate::for_patterns(&path, 64);
         let found = Pattern::read(rt.alloc(), pattern)?.matches_candidate(&candidate, false);

@@ -1,175 +1,134 @@
 //! Worked examples of what patterns match.
 
-use lc_glob::{Candidate, Pattern};
-use std::alloc::{AllocError, Global};
+use lc_glob::{Candidate, Pattern, PatternSet};
 use std::process::Abort;
 use std::test::Fail;
-
-const FILE: bool = false;
-
-const DIR: bool = true;
-
-/// A pattern, a path, whether the path is a directory's, and whether they match.
-type Case = (&'static [u8], &'static [u8], bool, bool);
 
 /// Whether a pattern is dead, for directories only, and anchored.
 type Told = (bool, bool, bool);
 
-fn check(rt: &impl Abort, alloc: Global, cases: &[Case]) -> Result<(), AllocError> {
-    for (pattern, path, is_dir, answer) in cases {
-        let found = Pattern::read(alloc, pattern)?.matches(path, *is_dir);
-        assert!(rt; found == *answer, "{pattern:?} {path:?}");
+/// Patterns, the paths that each matches, and paths that it does not match. The path of a directory ends with a slash.
+const CASES: &[&str] = &[
+    // a star stops at a slash
+    r"foo/* | foo/test.json foo/bar/ | foo/bar/hello.c",
+    r"f*o | fo | f/o",
+    r"foo/*.c | foo/bar.c foo/.c | foo/c foo/bar/a.c",
+    // a double star at the end of a pattern matches what is inside a directory, and not the directory itself
+    r"abc/** | abc/x abc/x/y | abc/",
+    r"/** | a a/b",
+    // a double star matches any number of directories, also none
+    r"a/**/b | a/b a/x/b a/x/y/b | x/a/b a/b/c",
+    r"**/foo | foo a/b/foo",
+    r"a/**/b/**/c | a/x/b/b/y/c | a/x/y/c",
+    r"**/doc/*.md | doc/a.md a/b/doc/.md | a/doc/b/a.md",
+    // runs of stars that are no double star match like one star
+    r"x**/b | x/b xyz/b | x/y/b",
+    r"***/b | q/b | q/r/b",
+    r"a/**b | a/xb a/b | a/x/b",
+    r"** | a/b",
+    // a slash at the end of a pattern makes it match directories only
+    r"doc/frotz/ | doc/frotz/ | doc/frotz a/doc/frotz/",
+    r"frotz/ | frotz/ a/frotz/ | frotz",
+    // a bracket matches its members, and no other byte
+    r"[]a] | ] a | b",
+    r"[!a-c] | d | b",
+    r"[^a-c] | d | b",
+    r"[z-a] | z | a",
+    r"[a/b] | a b x/a",
+    r"[[:digit:]-] | 7 - | a",
+    r"[[:] | [ :",
+    r"[a-] | a - | b",
+    r"[\]] | ]",
+    r"a[!b]c | | a/c",
+    // a backslash quotes the byte after it
+    r"\#a | #a",
+    r"\!b | !b",
+    r"\* | * | a",
+    r"a\\ | a\",
+    r"p\/q | p/q | x/p/q",
+    r"[[:upper:]]? | Q1 | q1",
+    // literals, and literals with one star or one double star
+    r"main.c | src/main.c | src/main.cc",
+    r"lib*.? | libm.a | libm.so",
+    r"build/ | x/build/",
+    r"/build | | x/build/",
+    r"/a/**/b | a/x/y/b",
+    r"a/*** | | a/x/y",
+    r"\*.c | *.c | a.c",
+    // other patterns
+    r"[ab] | b",
+    r"[!a-c]x | dx | bx",
+    r"/[[:digit:]]*/**/?.[oa]/ | 1st/a/b/m.a/ | st/a/b/m.a/",
+    r"\** | *c",
+    r"\a/b | a/b",
+    // dead patterns
+    r"a//b | | a/b",
+    r"[a | | [a",
+    r"a/[b]//c | | a/b/c",
+    // the examples of the crate's documentation
+    r"/build/**/*.o | build/x86/main.o | src/build/main.o",
+    r"*.[oa] | main.a | main.c",
+    r"*.o | src/main.o | src/main.os",
+    r"[a-z] | m",
+    r"[!a-z] | | m",
+];
+
+/// Checks whether a pattern, which is the last of a set, matches each of the paths, alone and as a part of the set.
+fn check(rt: &impl Abort, pattern: &Pattern, set: &PatternSet, paths: &str, answer: bool) {
+    let last = set.len().checked_sub(1);
+    for path in paths.split_ascii_whitespace() {
+        let (path, is_dir) = match path.strip_suffix('/') {
+            Some(path) => (path.as_bytes(), true),
+            None => (path.as_bytes(), false),
+        };
+        let found = pattern.matches(path, is_dir);
+        let in_set = set.last_match(&Candidate::new(path), is_dir, set.len()) == last;
+        assert!(rt; found == answer && in_set == answer, "{path:?} in {paths}");
     }
-    Ok(())
 }
 
-/// A star stops at a slash.
-const STAR: &[Case] = &[
-    (b"foo/*", b"foo/test.json", FILE, true),
-    (b"foo/*", b"foo/bar", DIR, true),
-    (b"f*o", b"fo", FILE, true),
-    (b"foo/*.c", b"foo/bar.c", FILE, true),
-    (b"foo/*.c", b"foo/.c", FILE, true),
-    (b"foo/*.c", b"foo/c", FILE, false),
-    (b"foo/*.c", b"foo/bar/a.c", FILE, false),
-    (b"foo/*", b"foo/bar/hello.c", FILE, false),
-    (b"f*o", b"f/o", FILE, false),
-];
-
-/// A double star at the end of a pattern matches what is inside a directory, and not the directory itself.
-const LAST_DOUBLE_STAR: &[Case] = &[
-    (b"abc/**", b"abc/x", FILE, true),
-    (b"abc/**", b"abc/x/y", FILE, true),
-    (b"/**", b"a", FILE, true),
-    (b"/**", b"a/b", FILE, true),
-    (b"abc/**", b"abc", DIR, false),
-];
-
-/// A double star matches any number of directories, also none.
-const DOUBLE_STAR: &[Case] = &[
-    (b"a/**/b", b"a/b", FILE, true),
-    (b"a/**/b", b"a/x/b", FILE, true),
-    (b"a/**/b", b"a/x/y/b", FILE, true),
-    (b"**/foo", b"foo", FILE, true),
-    (b"**/foo", b"a/b/foo", FILE, true),
-    (b"a/**/b/**/c", b"a/x/b/b/y/c", FILE, true),
-    (b"**/doc/*.md", b"doc/a.md", FILE, true),
-    (b"**/doc/*.md", b"a/b/doc/.md", FILE, true),
-    (b"**/doc/*.md", b"a/doc/b/a.md", FILE, false),
-    (b"a/**/b", b"x/a/b", FILE, false),
-    (b"a/**/b", b"a/b/c", FILE, false),
-    (b"a/**/b/**/c", b"a/x/y/c", FILE, false),
-];
-
-/// Runs of stars that are no double star match like one star.
-const OTHER_STARS: &[Case] = &[
-    (b"x**/b", b"x/b", FILE, true),
-    (b"x**/b", b"xyz/b", FILE, true),
-    (b"***/b", b"q/b", FILE, true),
-    (b"a/**b", b"a/xb", FILE, true),
-    (b"a/**b", b"a/b", FILE, true),
-    (b"a/**b", b"a/x/b", FILE, false),
-    (b"**", b"a/b", FILE, true),
-    (b"x**/b", b"x/y/b", FILE, false),
-    (b"***/b", b"q/r/b", FILE, false),
-];
-
-/// A slash at the end of a pattern makes it match directories only.
-const LAST_SEPARATOR: &[Case] = &[
-    (b"doc/frotz/", b"doc/frotz", DIR, true),
-    (b"frotz/", b"frotz", DIR, true),
-    (b"frotz/", b"a/frotz", DIR, true),
-    (b"doc/frotz/", b"doc/frotz", FILE, false),
-    (b"doc/frotz/", b"a/doc/frotz", DIR, false),
-    (b"frotz/", b"frotz", FILE, false),
-];
-
-/// A bracket matches its members.
-const MEMBERS: &[Case] = &[
-    (b"[]a]", b"]", FILE, true),
-    (b"[]a]", b"a", FILE, true),
-    (b"[!a-c]", b"d", FILE, true),
-    (b"[^a-c]", b"d", FILE, true),
-    (b"[z-a]", b"z", FILE, true),
-    (b"[a/b]", b"a", FILE, true),
-    (b"[a/b]", b"b", FILE, true),
-    (b"[a/b]", b"x/a", FILE, true),
-    (b"[[:digit:]-]", b"7", FILE, true),
-    (b"[[:digit:]-]", b"-", FILE, true),
-    (b"[[:]", b"[", FILE, true),
-    (b"[[:]", b":", FILE, true),
-    (b"[a-]", b"a", FILE, true),
-    (b"[a-]", b"-", FILE, true),
-    (b"[\\]]", b"]", FILE, true),
-];
-
-/// A bracket matches no byte but its members.
-const OTHER_BYTES: &[Case] = &[
-    (b"[]a]", b"b", FILE, false),
-    (b"[!a-c]", b"b", FILE, false),
-    (b"[^a-c]", b"b", FILE, false),
-    (b"[z-a]", b"a", FILE, false),
-    (b"[[:digit:]-]", b"a", FILE, false),
-    (b"[a-]", b"b", FILE, false),
-    (b"a[!b]c", b"a/c", FILE, false),
-];
-
-/// Classes such as `[:alpha:]` have ASCII bytes only.
-const CLASSES: &[Case] = &[
-    (b"[[:alpha:]]", b"Z", FILE, true),
-    (b"[[:lower:]]", b"z", FILE, true),
-    (b"[[:upper:]]", b"A", FILE, true),
-    (b"[[:digit:]]", b"0", FILE, true),
-    (b"[[:xdigit:]]", b"F", FILE, true),
-    (b"[[:alnum:]]", b"9", FILE, true),
-    (b"[[:blank:]]", b"\t", FILE, true),
-    (b"[[:space:]]", b"\r", FILE, true),
-    (b"[[:cntrl:]]", b"\x7f", FILE, true),
-    (b"[[:graph:]]", b"~", FILE, true),
-    (b"[[:print:]]", b" ", FILE, true),
-    (b"[[:punct:]]", b"@", FILE, true),
-    (b"[[:lower:]]", b"Z", FILE, false),
-    (b"[[:punct:]]", b"a", FILE, false),
-    (b"[[:alpha:]]", b"\xe4", FILE, false),
-];
-
-/// A backslash quotes the byte after it.
-const QUOTED: &[Case] = &[
-    (b"\\#a", b"#a", FILE, true),
-    (b"\\!b", b"!b", FILE, true),
-    (b"\\*", b"*", FILE, true),
-    (b"a\\\\", b"a\\", FILE, true),
-    (b"p\\/q", b"p/q", FILE, true),
-    (b"[[:upper:]]?", b"Q1", FILE, true),
-    (b"\\*", b"a", FILE, false),
-    (b"p\\/q", b"x/p/q", FILE, false),
-    (b"[[:upper:]]?", b"q1", FILE, false),
-];
-
-/// The examples of the crate's documentation.
-const DOCUMENTED: &[Case] = &[
-    (b"/build/**/*.o", b"build/x86/main.o", FILE, true),
-    (b"frotz/", b"a/frotz", DIR, true),
-    (b"*.[oa]", b"main.a", FILE, true),
-    (b"*.o", b"src/main.o", FILE, true),
-    (b"[a-z]", b"m", FILE, true),
-    (b"/build/**/*.o", b"src/build/main.o", FILE, false),
-    (b"*.[oa]", b"main.c", FILE, false),
-    (b"[!a-z]", b"m", FILE, false),
+/// A pattern with a class such as `[:alpha:]`, a byte, and whether they match.
+const CLASSES: &[(&[u8], &[u8], bool)] = &[
+    (b"[[:alpha:]]", b"Z", true),
+    (b"[[:lower:]]", b"z", true),
+    (b"[[:upper:]]", b"A", true),
+    (b"[[:digit:]]", b"0", true),
+    (b"[[:xdigit:]]", b"F", true),
+    (b"[[:alnum:]]", b"9", true),
+    (b"[[:blank:]]", b"\t", true),
+    (b"[[:space:]]", b"\r", true),
+    (b"[[:cntrl:]]", b"\x7f", true),
+    (b"[[:graph:]]", b"~", true),
+    (b"[[:print:]]", b" ", true),
+    (b"[[:punct:]]", b"@", true),
+    (b"[[:lower:]]", b"Z", false),
+    (b"[[:punct:]]", b"a", false),
+    (b"[[:alpha:]]", b"\xe4", false),
 ];
 
 #[test]
 fn patterns_and_paths(rt: HostRuntime) -> Result<(), Fail> {
-    check(&rt, rt.alloc(), STAR)?;
-    check(&rt, rt.alloc(), LAST_DOUBLE_STAR)?;
-    check(&rt, rt.alloc(), DOUBLE_STAR)?;
-    check(&rt, rt.alloc(), OTHER_STARS)?;
-    check(&rt, rt.alloc(), LAST_SEPARATOR)?;
-    check(&rt, rt.alloc(), MEMBERS)?;
-    check(&rt, rt.alloc(), OTHER_BYTES)?;
-    check(&rt, rt.alloc(), CLASSES)?;
-    check(&rt, rt.alloc(), QUOTED)?;
-    check(&rt, rt.alloc(), DOCUMENTED)?;
+    let mut set = PatternSet::new(rt.alloc());
+    assert!(rt; set.is_empty());
+    for case in CASES {
+        let mut parts = case.split('|');
+        let pattern = parts.next().unwrap_or("").trim();
+        let pattern = Pattern::read(rt.alloc(), pattern.as_bytes())?;
+        set.push(&pattern)?;
+        check(&rt, &pattern, &set, parts.next().unwrap_or(""), true);
+        check(&rt, &pattern, &set, parts.next().unwrap_or(""), false);
+    }
+    set.shrink_to_fit();
+    assert!(rt; set.len() == CASES.len() && !set.is_empty());
+    Ok(())
+}
+
+#[test]
+fn classes_have_ascii_bytes_only(rt: HostRuntime) -> Result<(), Fail> {
+    for (pattern, byte, answer) in CLASSES {
+        let found = Pattern::read(rt.alloc(), pattern)?.matches(byte, false);
+        assert!(rt; found == *answer, "{pattern:?} {byte:?}");
+    }
     Ok(())
 }
 

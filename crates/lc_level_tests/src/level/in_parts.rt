@@ -4,29 +4,12 @@ use crate::level::work::NOTHING;
 use lc_level::{
     CountedFiles, FaultLine, FaultWord, Filters, Job, LevelReader, Opened, Scratch, SpareThreads,
 };
+use lc_tests::numbered_files;
 use lc_tree::{IdleThreads, MemTree, Node};
 use std::alloc::{AllocError, Global};
 use std::process::Abort;
 use std::test::Fail;
 use std::thread::Threads;
-
-const FILES: u32 = 2000;
-
-/// Returns a directory of `FILES` files, each with its name as its bytes. A read fails at the end of every seventh file.
-fn flat(alloc: Global) -> Result<Node, AllocError> {
-    let mut entries = Vec::new(alloc);
-    for number in 0..FILES {
-        let name = format!(in alloc; "{}", 10_000 + number)?.into_bytes();
-        let bytes = name.to_vec(alloc)?;
-        let node = if number % 7 == 3 {
-            Node::Failing(bytes)
-        } else {
-            Node::File(bytes)
-        };
-        entries.push((name, node))?;
-    }
-    Ok(Node::Dir(entries))
-}
 
 fn is_same(found: &CountedFiles, wanted: &CountedFiles) -> bool {
     let files = found.files.iter().zip(&wanted.files).all(|(file, other)| {
@@ -83,13 +66,10 @@ pub(super) fn check<R: Threads + Sync + Abort>(
     wanted: &CountedFiles,
     threads: u32,
 ) -> Result<(), AllocError> {
-    let idle = IdleThreads::new(threads.saturating_add(1));
-    for _ in 0..threads {
-        idle.begin();
-    }
+    let idle = IdleThreads::all_idle(threads.saturating_add(1));
     let (tree, filters) = (MemTree::new(node), Filters::none(alloc));
     let counted = count_flat(rt, alloc, &tree, &filters, Some(&idle));
-    let free = idle.take(FILES);
+    let free = idle.take(u32::MAX);
     let back = free.count() == threads;
     idle.give_back(free);
     assert!(rt; back, "{threads}");
@@ -99,7 +79,7 @@ pub(super) fn check<R: Threads + Sync + Abort>(
 
 #[test]
 fn many_files_are_counted_in_parts(rt: HostRuntime) -> Result<(), Fail> {
-    let node = flat(rt.alloc())?;
+    let node = numbered_files(rt.alloc(), 2000, 7)?;
     let (tree, filters) = (MemTree::new(&node), Filters::none(rt.alloc()));
     let wanted = count_flat(&rt, rt.alloc(), &tree, &filters, None)?;
     assert!(rt; wanted.files.len() == 1714 && wanted.faults.len() == 287);

@@ -1,6 +1,6 @@
 //! The rules of a repository, in `.git/info` of its top directory.
 
-use crate::level::work::{Case, check, check_parts};
+use crate::level::work::{check, check_parts};
 use std::test::Fail;
 
 /// A tree with all the rule files that a top may have.
@@ -12,60 +12,29 @@ const REPOSITORY: &str = "
     k.c
     m.c";
 
-const BY_REPOSITORY: &str = "
-    .gitattributes
-    .gitignore
-    m.c set
-    left git .git/
-    left rule .git/info/exclude:1 a.o
-    left rule .gitignore:1 k.c";
+const BY_REPOSITORY: &[&str] = &[
+    "both files |
+     | .gitattributes .gitignore m.c set, left git .git/, left rule .git/info/exclude:1 a.o, left rule .gitignore:1 k.c",
+    "after an exclude file | --exclude-from=!a.o;
+     | .gitattributes .gitignore m.c set, left git .git/, left rule .git/info/exclude:1 a.o, left rule .gitignore:1 k.c",
+];
 
-const BELOW_THE_TOP: &str = "
-    .gitattributes
-    .gitignore
-    a.o
-    m.c unset
-    left git .git/
-    left rule */.gitignore:1 k.c";
+const BELOW_THE_TOP: &str = "not read below the top |
+     | .gitattributes .gitignore a.o m.c unset, left git .git/, left rule */.gitignore:1 k.c";
 
-/// The expected result for a directory with one file, `a`, and no rules.
-const A_ALONE: &str = "a, left git .git/";
-
-const CASES: &[Case] = &[
-    ("both files", REPOSITORY, "", BY_REPOSITORY),
-    (
-        "after an exclude file",
-        REPOSITORY,
-        "--exclude-from=!a.o;",
-        BY_REPOSITORY,
-    ),
-    ("no info", ".git/ a", "", A_ALONE),
-    ("info is a file", ".git/{ info } a", "", A_ALONE),
-    ("an empty info", ".git/{ info/ } a", "", A_ALONE),
-    (
-        "exclude is a directory",
-        ".git/{ info/{ exclude/ } } a",
-        "",
-        A_ALONE,
-    ),
-    (
-        "exclude is a link",
-        ".git/{ info/{ exclude@ } } a",
-        "",
-        A_ALONE,
-    ),
+const WITHOUT_RULES: &[&str] = &[
+    "no info | .git/ a | | a, left git .git/",
+    "info is a file | .git/{ info } a | | a, left git .git/",
+    "an empty info | .git/{ info/ } a | | a, left git .git/",
+    "exclude is a directory | .git/{ info/{ exclude/ } } a | | a, left git .git/",
+    "exclude is a link | .git/{ info/{ exclude@ } } a | | a, left git .git/",
 ];
 
 #[test]
 fn rules_of_the_top_alone(rt: HostRuntime) -> Result<(), Fail> {
-    check(&rt, rt.alloc(), CASES)?;
+    check_parts(&rt, rt.alloc(), REPOSITORY, "", BY_REPOSITORY)?;
+    check(&rt, rt.alloc(), WITHOUT_RULES)?;
     let below = format!(in rt.alloc(); "s/{{ {REPOSITORY} }}")?;
-    check_parts(
-        &rt,
-        rt.alloc(),
-        &below,
-        "s",
-        &[("not read below the top", "", BELOW_THE_TOP)],
-    )?;
+    check_parts(&rt, rt.alloc(), &below, "s", &[BELOW_THE_TOP])?;
     Ok(())
 }

@@ -5,16 +5,10 @@ use lc_level::{
     Opened, ReaderOptions, Scratch, SkippedLine,
 };
 use lc_rules::State;
-use lc_tests::{Asked, has_words, push_kind, push_name, push_reason, tree};
+use lc_tests::{Asked, cut, has_words, push_faults, push_name, push_skipped, tree};
 use lc_tree::{MemTree, Node};
 use std::alloc::{AllocError, Global};
 use std::process::Abort;
-
-/// A name, the sketch of a tree, arguments as on a command line, and the expected result or error.
-pub(crate) type Case<'a> = (&'a str, &'a str, &'a str, &'a str);
-
-/// A name, arguments as on a command line, and the expected result or error for one directory of a tree.
-pub(crate) type Part<'a> = (&'a str, &'a str, &'a str);
 
 /// The options with which a reader keeps nothing besides what a count needs.
 pub(crate) const NOTHING: ReaderOptions<'static> = ReaderOptions {
@@ -119,25 +113,7 @@ fn push_counted(text: &mut String, counted: &CountedFiles) -> Result<(), AllocEr
         }
         text.push_str("\n")?;
     }
-    for fault in &counted.faults {
-        let word = fault.word.as_str();
-        write!(text, "fault {word} ")?;
-        push_name(text, &fault.path)?;
-        text.push_str("\n")?;
-    }
-    Ok(())
-}
-
-fn push_skipped(text: &mut String, entries: &[SkippedLine]) -> Result<(), AllocError> {
-    for entry in entries {
-        text.push_str("left ")?;
-        push_reason(text, &entry.reason)?;
-        text.push_str(" ")?;
-        push_name(text, &entry.path)?;
-        push_kind(text, entry.kind)?;
-        text.push_str("\n")?;
-    }
-    Ok(())
+    push_faults(text, &counted.faults)
 }
 
 /// Returns the counted files, the errors, the child directories and the skipped entries as text.
@@ -192,47 +168,52 @@ fn found_in(
     }
 }
 
-/// Checks the result for one directory, with skipped entries kept and without. Only the skipped entries may differ.
+/// Checks the result for one directory, with skipped entries kept and without. Only the skipped entries may differ. A request has arguments
+/// as on a command line, and the expected result or error.
 fn check_node(
     rt: &impl Abort,
     alloc: Global,
     node: &Node,
     below: &str,
-    (name, words, wanted): &Part,
+    request: &str,
 ) -> Result<(), AllocError> {
+    let (words, wanted) = cut(request);
     let asked = Asked::read(alloc, words)?;
     assert!(rt; asked.is_known, "{words}");
     let filters = asked.filters(alloc)?;
     let (all, entries) = found_in(rt, alloc, node, below, &filters, LEFT_OUT)?;
-    assert!(rt; has_words(&all, wanted), "{name}: {all}");
+    assert!(rt; has_words(&all, wanted), "{all}, not {wanted}");
     let (plain, same_entries) = found_in(rt, alloc, node, below, &filters, NOTHING)?;
     let (wanted, _) = wanted.split_once("left ").unwrap_or((wanted, ""));
     assert!(rt;
         has_words(&plain, wanted) && entries == same_entries,
-        "{name}: {plain}"
+        "{plain}, not {wanted}"
     );
     Ok(())
 }
 
-/// Checks the results for one directory of a tree: the top if `below` is empty, and otherwise the child directory with this name.
+/// Checks the results for one directory of a tree: the top if `below` is empty, and otherwise the child directory with this name. Each case
+/// has a name, arguments as on a command line, and the expected result or error, separated by `|`.
 pub(crate) fn check_parts(
     rt: &impl Abort,
     alloc: Global,
     sketch: &str,
     below: &str,
-    parts: &[Part],
+    cases: &[&str],
 ) -> Result<(), AllocError> {
     let node = tree(alloc, sketch)?;
-    for part in parts {
-        check_node(rt, alloc, &node, below, part)?;
+    for case in cases {
+        check_node(rt, alloc, &node, below, cut(case).1)?;
     }
     Ok(())
 }
 
-/// Checks each case on the top of its tree.
-pub(crate) fn check(rt: &impl Abort, alloc: Global, cases: &[Case]) -> Result<(), AllocError> {
-    for (name, sketch, words, wanted) in cases {
-        check_parts(rt, alloc, sketch, "", &[(*name, *words, *wanted)])?;
+/// Checks each case on the top of its tree. A case has a name, the sketch of a tree, arguments as on a command line, and the expected
+/// result or error, separated by `|`.
+pub(crate) fn check(rt: &impl Abort, alloc: Global, cases: &[&str]) -> Result<(), AllocError> {
+    for case in cases {
+        let (sketch, request) = cut(cut(case).1);
+        check_node(rt, alloc, &tree(alloc, sketch)?, "", request)?;
     }
     Ok(())
 }
@@ -241,19 +222,14 @@ pub(crate) fn check(rt: &impl Abort, alloc: Global, cases: &[Case]) -> Result<()
 pub(crate) fn check_anywhere(
     rt: &impl Abort,
     alloc: Global,
-    cases: &[Case],
+    cases: &[&str],
 ) -> Result<(), AllocError> {
     check(rt, alloc, cases)?;
-    for (name, sketch, words, wanted) in cases {
+    for case in cases {
+        let (sketch, request) = cut(cut(case).1);
         let mut entries = Vec::new(alloc);
         entries.push((b"s".to_vec(alloc)?, tree(alloc, sketch)?))?;
-        check_node(
-            rt,
-            alloc,
-            &Node::Dir(entries),
-            "s",
-            &(*name, *words, *wanted),
-        )?;
+        check_node(rt, alloc, &Node::Dir(entries), "s", request)?;
     }
     Ok(())
 }

@@ -1,40 +1,11 @@
-//! Tests of attribute files. `tools/cases` makes each table of cases from the cases of `docs/cases/attributes.tsv` whose topic is the
-//! table's name.
+//! Tests of attribute files. `tools/cases` makes `CASES` from the cases of `docs/cases/attributes.tsv`.
 
-use lc_rules::{AttrChain, AttrFile, RuleFault, State, TextState, is_attribute_name};
+use crate::rules::rows::{bytes_of, columns};
+use lc_rules::{AttrChain, AttrFile, RuleFault, State, is_attribute_name};
 use std::alloc::{AllocError, Global};
 use std::process::Abort;
 use std::sync::Arc;
 use std::test::Fail;
-
-const FILE: bool = false;
-
-const DIR: bool = true;
-
-/// The lines of a top-level attribute file, the path of a file, the name of an attribute, and its state for that path.
-type Case = (&'static [u8], &'static [u8], &'static [u8], State<'static>);
-
-/// A part of an attribute chain. A chain is made from its parts in order: perhaps a lowest file, files of directories at a depth,
-/// directories without a file, and the file of `.git/info`.
-#[derive(Clone, Copy)]
-enum Part {
-    Lowest(&'static [u8]),
-    File(u32, &'static [u8]),
-    NoFile(u32),
-    Info(&'static [u8]),
-    NoInfo,
-}
-
-/// The parts of a chain, the path of a file, and the state of the attribute `text` for that path.
-type TextCase = (&'static [Part], &'static [u8], TextState);
-
-/// The parts of a chain, a path and whether it is a directory, the name of an attribute, and its state for that path.
-type StateCase = (
-    &'static [Part],
-    (&'static [u8], bool),
-    &'static [u8],
-    State<'static>,
-);
 
 fn read(alloc: Global, bytes: &[u8], top: bool) -> Result<AttrFile, AllocError> {
     AttrFile::read(alloc, bytes, top).map_err(|_| AllocError)
@@ -44,319 +15,213 @@ fn file(alloc: Global, bytes: &[u8], top: bool) -> Result<Arc<AttrFile, Global>,
     Ok(Arc::new(alloc, read(alloc, bytes, top)?)?)
 }
 
-fn with_part(chain: &AttrChain, alloc: Global, part: &Part) -> Result<AttrChain, AllocError> {
-    match part {
-        Part::Lowest(lines) => Ok(AttrChain::top_with(Some(file(alloc, lines, true)?))),
-        Part::File(depth, lines) => {
-            chain.below(alloc, *depth, Some(file(alloc, lines, *depth == 0)?))
-        }
-        Part::NoFile(depth) => chain.below(alloc, *depth, None),
-        Part::Info(lines) => chain.with_info(alloc, Some(file(alloc, lines, true)?)),
-        Part::NoInfo => chain.with_info(alloc, None),
+/// Returns whether a word, such as `unset` or `=lf`, stands for this state.
+fn is_state(state: State, word: &str) -> bool {
+    match state {
+        State::Set => word == "set",
+        State::Unset => word == "unset",
+        State::Unspecified => word == "unspecified",
+        State::Value(value) => word.as_bytes().strip_prefix(b"=") == Some(value),
     }
 }
 
-fn chain_of(alloc: Global, parts: &[Part]) -> Result<AttrChain, AllocError> {
-    let mut chain = AttrChain::top_with(None);
-    for part in parts {
-        chain = with_part(&chain, alloc, part)?;
-    }
-    Ok(chain)
-}
+/// What a case shows, the lines of a top-level attribute file, the path of a file, the name of an attribute, and its state for that path.
+const CASES: &str = r#"
+    words | *.c text | a.c | text | set
+    words | *.c -text | a.c | text | unset
+    words | *.c text\n*.c !text | a.c | text | unspecified
+    words | *.c eol=lf | a.c | eol | =lf
+    words | *.c a=b=c | a.c | a | =b=c
+    words | *.c a= | a.c | a | =
+    words | *.c -a=b | a.c | a | unset
+    words | *.c !a=b | a.c | a | unspecified
+    words | *.c | a.c | a | unspecified
+    words | \x20\t*.c\ttext  eol=lf\r\n | a.c | eol | =lf
+    words | *.c a:b text | a.c | text | unspecified
+    words | *.c text --b | a.c | text | unspecified
+    words | *.c text =b | a.c | text | unspecified
+    words | *.c A.b-c_9 | a.c | A.b-c_9 | set
+    lines | #* text | #a | text | unspecified
+    lines | \x20 #* text | #a | text | unspecified
+    lines | \xef\xbb\xbfa text | a | text | set
+    lines | \n \t\r\n\na text | a | text | set
+    lines | !x text | x | text | unspecified
+    lines | "!x" text | !x | text | unspecified
+    lines | \\!x text | !x | text | set
+    lines | /t text | s/t | text | unspecified
+    quoted_patterns | "a b" text | a b | text | set
+    quoted_patterns | "a b"text | a b | text | set
+    quoted_patterns | "\\101" -text | A | text | unset
+    quoted_patterns | "\\t" text | \t | text | set
+    quoted_patterns | "\\a\\b\\f\\v\\r\\n" text | \x07\x08\x0c\x0b\r\n | text | set
+    quoted_patterns | "\\"" text | " | text | set
+    quoted_patterns | "a text | "a | text | unspecified
+    quoted_patterns | "\\x" text | x | text | unspecified
+    quoted_patterns | "\\401" text | \x01 | text | unspecified
+    quoted_patterns | "[attr]m" text | m | text | unspecified
+    macros | *.a binary | x.a | text | unset
+    macros | *.a binary | x.a | binary | set
+    macros | *.a binary\n*.a -binary | x.a | binary | unset
+    macros | *.a binary\n*.a -binary | x.a | text | unspecified
+    macros | *.a binary=1 | x.a | text | unspecified
+    macros | [attr]one two\n[attr]two one x\n*.q one | y.q | one | set
+    macros | [attr]one two\n[attr]two one x\n*.q one | y.q | two | set
+    macros | [attr]one two\n[attr]two one x\n*.q one | y.q | x | set
+    macros | [attr]m m a\n*.q m | y.q | a | set
+    macros | [attr]binary x\n*.m binary | a.m | x | set
+    macros | [attr]binary x\n*.m binary | a.m | text | unspecified
+    macros | *.q m\n[attr]m a\n[attr]m b | y.q | a | unspecified
+    macros | [attr] a\n*.q m | t | a | set
+    macros | [attr]-m a\n*.q a | y.q | a | set
+    later_assignments_decide | *.w text -text | a.w | text | unset
+    later_assignments_decide | *.w -text text | a.w | text | set
+    later_assignments_decide | *.v text\n*.v -text | a.v | text | unset
+    later_assignments_decide | *.v text\n*.x -text | a.v | text | set
+    later_assignments_decide | [attr]m -text\n*.v m text | a.v | text | set
+    later_assignments_decide | [attr]m -text\n*.v text m | a.v | text | unset
+"#;
 
-fn is_same(a: State, b: State) -> bool {
-    match (a, b) {
-        (State::Set, State::Set) => true,
-        (State::Unset, State::Unset) => true,
-        (State::Unspecified, State::Unspecified) => true,
-        (State::Value(v), State::Value(w)) => v == w,
-        _ => false,
-    }
-}
-
-fn has_state(
-    parts: &[Part],
-    alloc: Global,
-    (path, is_dir): (&[u8], bool),
-    name: &[u8],
-    state: State,
-) -> Result<bool, AllocError> {
-    let chain = chain_of(alloc, parts)?;
-    Ok(is_same(chain.state(alloc, path, is_dir, name)?, state))
-}
-
-fn check(rt: &impl Abort, alloc: Global, cases: &[Case]) -> Result<(), AllocError> {
-    for (lines, path, name, state) in cases {
-        let holds = has_state(&[Part::File(0, lines)], alloc, (path, false), name, *state)?;
-        assert!(rt; holds, "{lines:?} at {path:?}: {name:?}");
-    }
+/// Checks a case for a file that has these lines before those of the case.
+fn check(rt: &impl Abort, alloc: Global, before: &[u8], row: &str) -> Result<(), AllocError> {
+    let [_, lines, path, name, state] = columns(row);
+    let mut bytes = before.to_vec(alloc)?;
+    bytes.extend_from_slice(&bytes_of(alloc, lines)?)?;
+    let top = AttrChain::top_with(None);
+    let chain = top.below(alloc, 0, Some(file(alloc, &bytes, true)?))?;
+    let path = bytes_of(alloc, path)?;
+    let found = chain.state(alloc, &path, false, name.as_bytes())?;
+    assert!(rt; is_state(found, state), "{row}");
     Ok(())
 }
-
-fn text_of(parts: &[Part], alloc: Global, path: &[u8]) -> Result<TextState, AllocError> {
-    let chain = chain_of(alloc, parts)?;
-    Ok(chain.text(alloc, path)?)
-}
-
-// Tables are constant slices, since an array is written out in the proof of each function that lends it.
-const WORDS: &[Case] = &[
-    (b"*.c text", b"a.c", b"text", State::Set),
-    (b"*.c -text", b"a.c", b"text", State::Unset),
-    (b"*.c text\n*.c !text", b"a.c", b"text", State::Unspecified),
-    (b"*.c eol=lf", b"a.c", b"eol", State::Value(b"lf")),
-    (b"*.c a=b=c", b"a.c", b"a", State::Value(b"b=c")),
-    (b"*.c a=", b"a.c", b"a", State::Value(b"")),
-    (b"*.c -a=b", b"a.c", b"a", State::Unset),
-    (b"*.c !a=b", b"a.c", b"a", State::Unspecified),
-    (b"*.c", b"a.c", b"a", State::Unspecified),
-    (
-        b" \t*.c\ttext  eol=lf\r\n",
-        b"a.c",
-        b"eol",
-        State::Value(b"lf"),
-    ),
-    (b"*.c a:b text", b"a.c", b"text", State::Unspecified),
-    (b"*.c text --b", b"a.c", b"text", State::Unspecified),
-    (b"*.c text =b", b"a.c", b"text", State::Unspecified),
-    (b"*.c A.b-c_9", b"a.c", b"A.b-c_9", State::Set),
-];
-
-const LINES: &[Case] = &[
-    (b"#* text", b"#a", b"text", State::Unspecified),
-    (b"  #* text", b"#a", b"text", State::Unspecified),
-    (b"\xEF\xBB\xBFa text", b"a", b"text", State::Set),
-    (b"\n \t\r\n\na text", b"a", b"text", State::Set),
-    (b"!x text", b"x", b"text", State::Unspecified),
-    (b"\"!x\" text", b"!x", b"text", State::Unspecified),
-    (b"\\!x text", b"!x", b"text", State::Set),
-    (b"/t text", b"s/t", b"text", State::Unspecified),
-];
-
-const QUOTED_PATTERNS: &[Case] = &[
-    (b"\"a b\" text", b"a b", b"text", State::Set),
-    (b"\"a b\"text", b"a b", b"text", State::Set),
-    (b"\"\\101\" -text", b"A", b"text", State::Unset),
-    (b"\"\\t\" text", b"\t", b"text", State::Set),
-    (
-        b"\"\\a\\b\\f\\v\\r\\n\" text",
-        b"\x07\x08\x0C\x0B\r\n",
-        b"text",
-        State::Set,
-    ),
-    (b"\"\\\"\" text", b"\"", b"text", State::Set),
-    (b"\"a text", b"\"a", b"text", State::Unspecified),
-    (b"\"\\x\" text", b"x", b"text", State::Unspecified),
-    (b"\"\\401\" text", b"\x01", b"text", State::Unspecified),
-    (b"\"[attr]m\" text", b"m", b"text", State::Unspecified),
-];
-
-const MACROS: &[Case] = &[
-    (b"*.a binary", b"x.a", b"text", State::Unset),
-    (b"*.a binary", b"x.a", b"binary", State::Set),
-    (b"*.a binary\n*.a -binary", b"x.a", b"binary", State::Unset),
-    (
-        b"*.a binary\n*.a -binary",
-        b"x.a",
-        b"text",
-        State::Unspecified,
-    ),
-    (b"*.a binary=1", b"x.a", b"text", State::Unspecified),
-    (
-        b"[attr]one two\n[attr]two one x\n*.q one",
-        b"y.q",
-        b"one",
-        State::Set,
-    ),
-    (
-        b"[attr]one two\n[attr]two one x\n*.q one",
-        b"y.q",
-        b"two",
-        State::Set,
-    ),
-    (
-        b"[attr]one two\n[attr]two one x\n*.q one",
-        b"y.q",
-        b"x",
-        State::Set,
-    ),
-    (b"[attr]m m a\n*.q m", b"y.q", b"a", State::Set),
-    (b"[attr]binary x\n*.m binary", b"a.m", b"x", State::Set),
-    (
-        b"[attr]binary x\n*.m binary",
-        b"a.m",
-        b"text",
-        State::Unspecified,
-    ),
-    (
-        b"*.q m\n[attr]m a\n[attr]m b",
-        b"y.q",
-        b"a",
-        State::Unspecified,
-    ),
-    (b"[attr] a\n*.q m", b"t", b"a", State::Set),
-    (b"[attr]-m a\n*.q a", b"y.q", b"a", State::Set),
-];
-
-const LATER_ASSIGNMENTS_DECIDE: &[Case] = &[
-    (b"*.w text -text", b"a.w", b"text", State::Unset),
-    (b"*.w -text text", b"a.w", b"text", State::Set),
-    (b"*.v text\n*.v -text", b"a.v", b"text", State::Unset),
-    (b"*.v text\n*.x -text", b"a.v", b"text", State::Set),
-    (b"[attr]m -text\n*.v m text", b"a.v", b"text", State::Set),
-    (b"[attr]m -text\n*.v text m", b"a.v", b"text", State::Unset),
-];
 
 #[test]
 fn each_case_holds(rt: HostRuntime) -> Result<(), Fail> {
-    check(&rt, rt.alloc(), WORDS)?;
-    check(&rt, rt.alloc(), LINES)?;
-    check(&rt, rt.alloc(), QUOTED_PATTERNS)?;
-    check(&rt, rt.alloc(), MACROS)?;
-    check(&rt, rt.alloc(), LATER_ASSIGNMENTS_DECIDE)?;
-    Ok(())
-}
-
-/// Returns 100 lines whose pattern matches no path of the cases.
-fn many_lines(alloc: Global) -> Result<Vec<u8>, AllocError> {
-    let mut lines = Vec::new(alloc);
-    for _ in 0..100 {
-        lines.extend_from_slice(b"x y\n")?;
-    }
-    Ok(lines)
-}
-
-fn check_after(
-    rt: &impl Abort,
-    alloc: Global,
-    before: &[u8],
-    cases: &[Case],
-) -> Result<(), AllocError> {
-    for (lines, path, name, state) in cases {
-        let mut bytes = before.to_vec(alloc)?;
-        bytes.extend_from_slice(lines)?;
-        let top = AttrChain::top_with(None);
-        let chain = top.below(alloc, 0, Some(file(alloc, &bytes, true)?))?;
-        let holds = is_same(chain.state(alloc, path, FILE, name)?, *state);
-        assert!(rt; holds, "{lines:?} at {path:?}: {name:?}");
+    for row in CASES.trim().lines() {
+        check(&rt, rt.alloc(), b"", row)?;
     }
     Ok(())
 }
 
 #[test]
 fn each_case_holds_after_many_lines(rt: HostRuntime) -> Result<(), Fail> {
-    let before = many_lines(rt.alloc())?;
-    check_after(&rt, rt.alloc(), &before, WORDS)?;
-    check_after(&rt, rt.alloc(), &before, QUOTED_PATTERNS)?;
-    check_after(&rt, rt.alloc(), &before, MACROS)?;
-    check_after(&rt, rt.alloc(), &before, LATER_ASSIGNMENTS_DECIDE)?;
-    Ok(())
-}
-
-const TEXT_LINES: &[Part] = &[Part::File(
-    0,
-    b"*.t text=auto\n*.u text=crlf\n*.s text\n*.n -text\n*.v text\n*.v !text\nd/ text",
-)];
-
-/// A chain with the example of gitattributes(5).
-const MANUAL: &[Part] = &[
-    Part::File(0, b"abc foo bar baz"),
-    Part::File(1, b"ab* merge=filfre\nabc -foo -bar\n*.c frotz"),
-    Part::NoFile(2),
-];
-
-/// A chain in which a file that is not at the top tries to define a macro. Only the top file defines macros.
-const TOP_MACRO: &[Part] = &[
-    Part::File(0, b"[attr]m -text"),
-    Part::File(1, b"[attr]sub -text\n*.z sub\n*.y m"),
-];
-
-const BELOW_THE_TOP: &[Part] = &[Part::File(1, b"*.z binary")];
-
-/// A chain to which the file of `.git/info` is added first. Its attributes override the tree's, as they do when it is added last.
-const INFO_FIRST: &[Part] = &[
-    Part::Info(b"*.c text"),
-    Part::File(0, b"*.c -text"),
-    Part::File(1, b"*.c !text"),
-];
-
-const NO_INFO: &[Part] = &[Part::File(0, b"*.c -text"), Part::NoInfo];
-
-const INFO_LAST: &[Part] = &[
-    Part::File(0, b"*.c -text"),
-    Part::NoInfo,
-    Part::Info(b"*.c text"),
-];
-
-/// A chain without a file of `.git/info`. `INFO_MACROS` adds such a file, whose macros override those of the top file.
-const NO_INFO_MACROS: &[Part] = &[Part::File(0, b"[attr]m text\n*.c m")];
-
-const INFO_MACROS: &[Part] = &[
-    Part::File(0, b"[attr]m text\n*.c m"),
-    Part::Info(b"[attr]m -text\n[attr]src text"),
-    Part::File(1, b"*.d src"),
-];
-
-/// A chain with a lowest file, whose lines and macros the other files override.
-const LOWEST: &[Part] = &[
-    Part::Lowest(
-        b"[attr]m text\n[attr]n -text\n[attr]o text=auto\n*.l n\n*.c text\n/t/*.d text=auto",
-    ),
-    Part::File(0, b"[attr]m -text\n*.m m\n*.n n\n*.o o\n*.c !text"),
-    Part::Info(b"[attr]o -text"),
-];
-
-const TEXTS: &[TextCase] = &[
-    (TEXT_LINES, b"b.t", TextState::Auto),
-    (TEXT_LINES, b"b.u", TextState::Other),
-    (TEXT_LINES, b"b.s", TextState::Set),
-    (TEXT_LINES, b"b.n", TextState::Unset),
-    (TEXT_LINES, b"b.v", TextState::Unspecified),
-    (TEXT_LINES, b"b.x", TextState::Unspecified),
-    (TEXT_LINES, b"d", TextState::Unspecified),
-    (MANUAL, b"t/abc", TextState::Unspecified),
-    (TOP_MACRO, b"t/a.z", TextState::Unspecified),
-    (TOP_MACRO, b"t/a.y", TextState::Unset),
-    (BELOW_THE_TOP, b"t/a.z", TextState::Unset),
-    (&[], b"a", TextState::Unspecified),
-    (INFO_FIRST, b"t/a.c", TextState::Set),
-    (NO_INFO, b"a.c", TextState::Unset),
-    (INFO_LAST, b"a.c", TextState::Set),
-    (NO_INFO_MACROS, b"a.c", TextState::Set),
-    (INFO_MACROS, b"a.c", TextState::Unset),
-    (INFO_MACROS, b"t/a.d", TextState::Set),
-    (LOWEST, b"a.l", TextState::Unset),
-    (LOWEST, b"t/a.c", TextState::Unspecified),
-    (LOWEST, b"t/a.d", TextState::Auto),
-    (LOWEST, b"a.d", TextState::Unspecified),
-    (LOWEST, b"a.m", TextState::Unset),
-    (LOWEST, b"a.n", TextState::Unset),
-    (LOWEST, b"a.o", TextState::Unset),
-];
-
-#[test]
-fn texts_by_a_chain(rt: HostRuntime) -> Result<(), Fail> {
-    for (parts, path, text) in TEXTS {
-        let found = text_of(parts, rt.alloc(), path)?;
-        assert!(rt; found == *text, "{} parts, {path:?}", parts.len());
+    // The pattern of these lines matches no path of the cases. Only at the beginning of a file, a byte order mark is dropped.
+    let before = b"x y\n".repeat(rt.alloc(), 100)?;
+    for row in CASES.trim().lines() {
+        if !row.trim().starts_with("lines") {
+            check(&rt, rt.alloc(), &before, row)?;
+        }
     }
     Ok(())
 }
 
-const STATES: &[StateCase] = &[
-    (MANUAL, (b"t/abc", FILE), b"foo", State::Unset),
-    (MANUAL, (b"t/abc", FILE), b"bar", State::Unset),
-    (MANUAL, (b"t/abc", FILE), b"baz", State::Set),
-    (MANUAL, (b"t/abc", FILE), b"merge", State::Value(b"filfre")),
-    (MANUAL, (b"t/abc", FILE), b"frotz", State::Unspecified),
-    (TOP_MACRO, (b"t/a.z", FILE), b"sub", State::Set),
-    (TEXT_LINES, (b"d", DIR), b"text", State::Set),
+fn with_part(chain: &AttrChain, alloc: Global, part: &str) -> Result<AttrChain, AllocError> {
+    let (place, lines) = part.split_once(' ').unwrap_or((part, ""));
+    let is_top = place.parse::<u32>().unwrap_or(0) == 0;
+    let file = if lines.is_empty() {
+        None
+    } else {
+        Some(file(alloc, &bytes_of(alloc, lines)?, is_top)?)
+    };
+    match place {
+        "lowest" => Ok(AttrChain::top_with(file)),
+        "info" => chain.with_info(alloc, file),
+        depth => chain.below(alloc, depth.parse::<u32>().unwrap_or(0), file),
+    }
+}
+
+/// Makes a chain from its files: the lowest one, the file of `.git/info`, and files of directories at a depth. Each file has its lines
+/// after its place, and a place without lines has no file.
+fn chain_of(alloc: Global, parts: &str) -> Result<AttrChain, AllocError> {
+    let mut chain = AttrChain::top_with(None);
+    for part in parts.split_terminator('|') {
+        chain = with_part(&chain, alloc, part.trim())?;
+    }
+    Ok(chain)
+}
+
+const TEXT_LINES: &str =
+    r"0 *.t text=auto\n*.u text=crlf\n*.s text\n*.n -text\n*.v text\n*.v !text\nd/ text";
+
+/// A chain with the example of gitattributes(5).
+const MANUAL: &str = r"0 abc foo bar baz | 1 ab* merge=filfre\nabc -foo -bar\n*.c frotz | 2";
+
+/// A chain in which a file that is not at the top tries to define a macro. Only the top file defines macros.
+const TOP_MACRO: &str = r"0 [attr]m -text | 1 [attr]sub -text\n*.z sub\n*.y m";
+
+const NO_INFO: &str = "0 *.c -text | info";
+
+/// A chain with a lowest file, whose lines and macros the other files override.
+const LOWEST: &str = r"
+    lowest [attr]m text\n[attr]n -text\n[attr]o text=auto\n*.l n\n*.c text\n/t/*.d text=auto
+    | 0 [attr]m -text\n*.m m\n*.n n\n*.o o\n*.c !text
+    | info [attr]o -text";
+
+/// The parts of a chain, and after the path of each file the state of the attribute `text`. The file of `.git/info` may be added before the
+/// others or after them: its attributes and macros override theirs.
+const TEXTS: &[(&str, &str)] = &[
+    (
+        TEXT_LINES,
+        "b.t auto, b.u other, b.s set, b.n unset, b.v unspecified, b.x unspecified, d unspecified",
+    ),
+    (MANUAL, "t/abc unspecified"),
+    (TOP_MACRO, "t/a.z unspecified, t/a.y unset"),
+    ("1 *.z binary", "t/a.z unset"),
+    ("", "a unspecified"),
+    ("info *.c text | 0 *.c -text | 1 *.c !text", "t/a.c set"),
+    (NO_INFO, "a.c unset"),
+    ("0 *.c -text | info | info *.c text", "a.c set"),
+    (r"0 [attr]m text\n*.c m", "a.c set"),
+    (
+        r"0 [attr]m text\n*.c m | info [attr]m -text\n[attr]src text | 1 *.d src",
+        "a.c unset, t/a.d set",
+    ),
+    (
+        LOWEST,
+        "a.l unset, t/a.c unspecified, t/a.d auto, a.d unspecified, a.m unset, a.n unset, a.o unset",
+    ),
+];
+
+fn check_texts(
+    rt: &impl Abort,
+    alloc: Global,
+    chain: &AttrChain,
+    texts: &str,
+) -> Result<(), AllocError> {
+    for text in texts.split(',') {
+        let (path, wanted) = text.trim().split_once(' ').unwrap_or((text, ""));
+        let found = chain.text(alloc, path.as_bytes())?;
+        let found = found.word().unwrap_or("unspecified");
+        assert!(rt; found == wanted, "{text}, not {found}, in {texts}");
+    }
+    Ok(())
+}
+
+#[test]
+fn texts_by_a_chain(rt: HostRuntime) -> Result<(), Fail> {
+    for (parts, texts) in TEXTS {
+        let chain = chain_of(rt.alloc(), parts)?;
+        check_texts(&rt, rt.alloc(), &chain, texts)?;
+    }
+    Ok(())
+}
+
+/// The parts of a chain, a path and whether it is a directory, the name of an attribute, and its state for that path.
+const STATES: &[(&str, (&str, bool), &str, &str)] = &[
+    (MANUAL, ("t/abc", false), "foo", "unset"),
+    (MANUAL, ("t/abc", false), "bar", "unset"),
+    (MANUAL, ("t/abc", false), "baz", "set"),
+    (MANUAL, ("t/abc", false), "merge", "=filfre"),
+    (MANUAL, ("t/abc", false), "frotz", "unspecified"),
+    (TOP_MACRO, ("t/a.z", false), "sub", "set"),
+    (TEXT_LINES, ("d", true), "text", "set"),
 ];
 
 #[test]
 fn states_by_a_chain(rt: HostRuntime) -> Result<(), Fail> {
-    for (parts, path, name, state) in STATES {
-        let holds = has_state(parts, rt.alloc(), *path, name, *state)?;
-        assert!(rt; holds, "{name:?}");
+    for (parts, (path, is_dir), name, state) in STATES {
+        let chain = chain_of(rt.alloc(), parts)?;
+        let found = chain.state(rt.alloc(), path.as_bytes(), *is_dir, name.as_bytes())?;
+        assert!(rt; is_state(found, state), "{parts}: {name}");
     }
     Ok(())
 }
@@ -374,27 +239,16 @@ fn at_most_a_mebibyte(rt: HostRuntime) -> Result<(), Fail> {
     Ok(())
 }
 
-/// Words, and whether each can be the name of an attribute.
-const NAMES: &[(&'static str, bool)] = &[
-    ("a", true),
-    ("linguist-vendored", true),
-    ("A.9_z", true),
-    ("_", true),
-    (".", true),
-    ("0-", true),
-    ("", false),
-    ("-", false),
-    ("-a", false),
-    ("a b", false),
-    ("a=b", false),
-    ("!a", false),
-    ("\u{e9}", false),
-    ("a/b", false),
-];
-
 #[test]
 fn names_of_attributes(rt: HostRuntime) {
-    for (name, is_name) in NAMES {
-        assert!(rt; is_attribute_name(name.as_bytes()) == *is_name, "{name}");
+    for name in ["a", "linguist-vendored", "A.9_z", "_", ".", "0-"] {
+        assert!(rt; is_attribute_name(name.as_bytes()), "{name}");
+    }
+}
+
+#[test]
+fn words_that_name_no_attribute(rt: HostRuntime) {
+    for name in ["", "-", "-a", "a b", "a=b", "!a", "\u{e9}", "a/b"] {
+        assert!(rt; !is_attribute_name(name.as_bytes()), "{name}");
     }
 }

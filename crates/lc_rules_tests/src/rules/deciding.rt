@@ -1,169 +1,64 @@
-//! Tests of which rule decides whether a path is ignored. A rule is named by the number of its line.
+//! Tests of which rule of a file decides whether a path is ignored. A rule is named by the number of its line.
 
-use lc_rules::{Chain, DirectoriesAbove, IgnoreFile, Lines, RuleSource, Verdict, text_of_line};
+use crate::rules::rows::{bytes_of, columns, word_of};
+use lc_rules::{DirectoriesAbove, IgnoreFile, Lines, Rule, text_of_line};
 use std::alloc::{AllocError, Global};
 use std::process::Abort;
-use std::sync::Arc;
 use std::test::Fail;
-
-const FILE: bool = false;
-
-const DIR: bool = true;
-
-/// The rules of a file, a path, whether the path is a directory, and the line and the verdict of the last rule that matches the path.
-type Case = (&'static [u8], &'static [u8], bool, Option<(u32, Verdict)>);
 
 fn read(alloc: Global, bytes: &[u8]) -> Result<IgnoreFile, AllocError> {
     IgnoreFile::read(alloc, bytes).map_err(|_| AllocError)
 }
 
-const CASES: &[Case] = &[
-    // each line counts
-    (b"a", b"a", FILE, Some((1, Verdict::Ignored))),
-    (b"\n\na\n\n", b"a", FILE, Some((3, Verdict::Ignored))),
-    (b"# a\n\nb\n#\na", b"a", FILE, Some((5, Verdict::Ignored))),
-    (b"   \na", b"a", FILE, Some((2, Verdict::Ignored))),
-    (b"\r\n#\r\na\r\n", b"a", FILE, Some((3, Verdict::Ignored))),
-    // a carriage return alone ends no line
-    (b"b\ra\na", b"a", FILE, Some((2, Verdict::Ignored))),
-    (b"\xEF\xBB\xBFa\nb", b"a", FILE, Some((1, Verdict::Ignored))),
-    (b"\xEF\xBB\xBF\na", b"a", FILE, Some((2, Verdict::Ignored))),
-    (b"b\na   \n", b"a", FILE, Some((2, Verdict::Ignored))),
-    // dead patterns keep their lines, and decide nothing
-    (b"[a\na//\na", b"a", FILE, Some((3, Verdict::Ignored))),
-    (b"a\n[a", b"a", FILE, Some((1, Verdict::Ignored))),
-    // the last that matches decides
-    (
-        b"*.log\n!keep.log\n/build/\n",
-        b"a.log",
-        FILE,
-        Some((1, Verdict::Ignored)),
-    ),
-    (
-        b"*.log\n!keep.log\n/build/\n",
-        b"keep.log",
-        FILE,
-        Some((2, Verdict::Included)),
-    ),
-    (
-        b"*.log\n!keep.log\n/build/\n",
-        b"build",
-        DIR,
-        Some((3, Verdict::Ignored)),
-    ),
-    (b"*.log\n!keep.log\n/build/\n", b"build", FILE, None),
-    (b"*.log\n!keep.log\n/build/\n", b"build/x.c", FILE, None),
-    (b"a\n*\na\n", b"a", FILE, Some((3, Verdict::Ignored))),
-    (b"a\n*\nb\n", b"a", FILE, Some((2, Verdict::Ignored))),
-    (b"!a\n!*\n", b"a", FILE, Some((2, Verdict::Included))),
-    (b"", b"a", FILE, None),
-];
+/// The rules of a file, a path, which ends with a slash if it is a directory, and the line and the verdict of the last rule that matches.
+const CASES: &str = r"
+    a | a | 1 ignored | each line counts
+    \n\na\n\n | a | 3 ignored
+    # a\n\nb\n#\na | a | 5 ignored
+    \x20  \na | a | 2 ignored
+    \r\n#\r\na\r\n | a | 3 ignored
+    b\ra\na | a | 2 ignored | a carriage return alone ends no line
+    \xef\xbb\xbfa\nb | a | 1 ignored
+    \xef\xbb\xbf\na | a | 2 ignored
+    b\na   \n | a | 2 ignored
+    [a\na//\na | a | 3 ignored | dead patterns keep their lines, and decide nothing
+    a\n[a | a | 1 ignored
+    *.log\n!keep.log\n/build/\n | a.log | 1 ignored | the last that matches decides
+    *.log\n!keep.log\n/build/\n | keep.log | 2 included
+    *.log\n!keep.log\n/build/\n | build/ | 3 ignored
+    *.log\n!keep.log\n/build/\n | build | -
+    *.log\n!keep.log\n/build/\n | build/x.c | -
+    a\n*\na\n | a | 3 ignored
+    a\n*\nb\n | a | 2 ignored
+    !a\n!*\n | a | 2 included
+     | a | -
+";
+
+/// Returns the line and the verdict of a rule as text, or a hyphen if there is no rule.
+fn rule_text(alloc: Global, rule: Option<&Rule>) -> Result<String, AllocError> {
+    match rule {
+        Some(rule) => format!(in alloc; "{} {}", rule.line(), word_of(rule.verdict())),
+        None => format!(in alloc; "-"),
+    }
+}
+
+fn check(rt: &impl Abort, alloc: Global, row: &str) -> Result<(), AllocError> {
+    let [rules, path, wanted, ..] = columns(row);
+    let file = read(alloc, &bytes_of(alloc, rules)?)?;
+    let (path, is_dir) = match path.strip_suffix('/') {
+        Some(path) => (path, true),
+        None => (path, false),
+    };
+    let found = rule_text(alloc, file.last_match(path.as_bytes(), is_dir))?;
+    assert!(rt; found.as_str() == wanted, "{row}, not {found}");
+    Ok(())
+}
 
 #[test]
 fn each_case_holds(rt: HostRuntime) -> Result<(), Fail> {
-    for (rules, path, is_dir, wanted) in CASES {
-        let file = read(rt.alloc(), rules)?;
-        let found = match file.last_match(path, *is_dir) {
-            Some(rule) => Some((rule.line(), rule.verdict())),
-            None => None,
-        };
-        assert!(rt; found == *wanted, "{rules:?} at {path:?}: {found:?}");
+    for row in CASES.trim().lines() {
+        check(&rt, rt.alloc(), row)?;
     }
-    Ok(())
-}
-
-/// The place in a chain where a file of rules is added.
-#[derive(Clone, Copy)]
-enum Put {
-    Exclude,
-    Info,
-    Below(u32),
-    CommandLine,
-}
-
-fn with_file(chain: Chain, alloc: Global, (put, rules): (Put, &[u8])) -> Result<Chain, AllocError> {
-    let file = Some(Arc::new(alloc, read(alloc, rules)?)?);
-    match put {
-        Put::Exclude => Ok(chain.with_exclude(file)),
-        Put::Info => Ok(chain.with_info(file)),
-        Put::Below(depth) => chain.below(alloc, depth, file),
-        Put::CommandLine => Ok(chain.with_command_line(file)),
-    }
-}
-
-const FILES: &[(Put, &'static [u8])] = &[
-    (Put::Exclude, b"*.o\n*.t\n!*.p\n"),
-    (Put::Below(0), b"\n*.t\n*.c\n"),
-    (Put::Info, b"\n*.p\n*.c\n"),
-    (Put::Below(1), b"#\n\n\n!k.t\n/u.c\n"),
-];
-
-fn chain_of(alloc: Global, files: &[(Put, &'static [u8])]) -> Result<Chain, AllocError> {
-    let mut chain = Chain::top();
-    for file in files {
-        chain = with_file(chain, alloc, *file)?;
-    }
-    Ok(chain)
-}
-
-/// A path, and the source and the line of the last rule that matches the path, if any rule matches.
-type Place = (&'static [u8], Option<(RuleSource, u32)>);
-
-const NEARER: &[Place] = &[
-    (b"s/k.t", Some((RuleSource::Gitignore(1), 4))),
-    (b"s/j.t", Some((RuleSource::Gitignore(0), 2))),
-    (b"s/u.c", Some((RuleSource::Gitignore(1), 5))),
-    (b"s/v/u.c", Some((RuleSource::Gitignore(0), 3))),
-    (b"s/a.p", Some((RuleSource::InfoExclude(0), 2))),
-    (b"s/a.o", Some((RuleSource::ExcludeFrom, 1))),
-    (b"s/u", None),
-];
-
-fn compare(
-    rt: &impl Abort,
-    alloc: Global,
-    files: &[(Put, &'static [u8])],
-    places: &[Place],
-) -> Result<(), AllocError> {
-    let chain = chain_of(alloc, files)?;
-    for (path, wanted) in places {
-        let found = match chain.last_match(path, FILE) {
-            Some((source, rule)) => Some((source, rule.line())),
-            None => None,
-        };
-        assert!(rt; found == *wanted, "{path:?}: {found:?}");
-    }
-    Ok(())
-}
-
-#[test]
-fn a_nearer_file_decides(rt: HostRuntime) -> Result<(), Fail> {
-    compare(&rt, rt.alloc(), FILES, NEARER)?;
-    Ok(())
-}
-
-/// A chain's files, some added before the patterns of the command line and some after them.
-const WITH_PATTERNS: &[(Put, &'static [u8])] = &[
-    (Put::Exclude, b"*.o\n*.t\n"),
-    (Put::CommandLine, b"*.t\n!keep.c\n/s/*.p\n"),
-    (Put::Below(0), b"!*.t\n*.c\n"),
-    (Put::Info, b"*.p\n*.t\n"),
-    (Put::Below(1), b"!k.t\nkeep.c\n"),
-];
-
-const BY_PATTERNS: &[Place] = &[
-    (b"s/k.t", Some((RuleSource::CommandLine, 1))),
-    (b"s/keep.c", Some((RuleSource::CommandLine, 2))),
-    (b"s/a.p", Some((RuleSource::CommandLine, 3))),
-    (b"a.p", Some((RuleSource::InfoExclude(0), 1))),
-    (b"s/u.c", Some((RuleSource::Gitignore(0), 2))),
-    (b"s/a.o", Some((RuleSource::ExcludeFrom, 1))),
-    (b"s/u", None),
-];
-
-#[test]
-fn the_command_line_decides_before_every_file(rt: HostRuntime) -> Result<(), Fail> {
-    compare(&rt, rt.alloc(), WITH_PATTERNS, BY_PATTERNS)?;
     Ok(())
 }
 
@@ -186,51 +81,43 @@ fn texts_of_lines(rt: HostRuntime) -> Result<(), Fail> {
 
 /// The rules of a file, a path, and the lines of the rules that decide: one for each directory above the path, and one for the path as a
 /// file.
-type Above = (
-    &'static [u8],
-    &'static [u8],
-    &'static [Option<u32>],
-    Option<u32>,
-);
+const ABOVE: &str = r"
+    **/q/**\nb/\n | a/b/c/d | - 2 - -
+    b/\n**/q/**\n | a/b/c/d | - 1 - -
+    **/b/**\n!/a/b/c/\n | a/b/c/d/e | - - 2 1 1
+    /a*/**/d\n | ab/x/d/e | - - 1 -
+    *\n!a\n | a/b/a/c | 2 1 2 1
+    a/**/b\na/**/b/\n | a/x/b | - - 1
+    *\n | a | 1
+     | a/b/c | - - -
+";
 
-const ABOVE: &[Above] = &[
-    (b"**/q/**\nb/\n", b"a/b/c/d", &[None, Some(2), None], None),
-    (b"b/\n**/q/**\n", b"a/b/c/d", &[None, Some(1), None], None),
-    (
-        b"**/b/**\n!/a/b/c/\n",
-        b"a/b/c/d/e",
-        &[None, None, Some(2), Some(1)],
-        Some(1),
-    ),
-    (b"/a*/**/d\n", b"ab/x/d/e", &[None, None, Some(1)], None),
-    (
-        b"*\n!a\n",
-        b"a/b/a/c",
-        &[Some(2), Some(1), Some(2)],
-        Some(1),
-    ),
-    (b"a/**/b\na/**/b/\n", b"a/x/b", &[None, None], Some(1)),
-    (b"*\n", b"a", &[], Some(1)),
-    (b"", b"a/b/c", &[None, None], None),
-];
+/// Appends the line of a rule to a text, or a hyphen if there is no rule, and a space.
+fn push_line(text: &mut String, rule: Option<&Rule>) -> Result<(), AllocError> {
+    match rule {
+        Some(rule) => write!(text, "{} ", rule.line()),
+        None => text.push_str("- "),
+    }
+}
+
+/// Returns the lines of the rules that decide for the directories above a path, and for the path as a file.
+fn lines_above(alloc: Global, file: &IgnoreFile, path: &str) -> Result<String, AllocError> {
+    let above = DirectoriesAbove::of(file, path.as_bytes(), false);
+    let mut text = String::new(alloc);
+    for (index, (len, _)) in path.match_indices('/').enumerate() {
+        push_line(&mut text, above.last_match(index, len))?;
+    }
+    push_line(&mut text, above.last_match_of_path())?;
+    Ok(text)
+}
 
 #[test]
 fn a_path_is_decided_at_once_with_the_directories_above_it(rt: HostRuntime) -> Result<(), Fail> {
-    for (rules, path, lines, own) in ABOVE {
-        let file = read(rt.alloc(), rules)?;
-        let above = DirectoriesAbove::of(&file, path, FILE);
-        let mut found = Vec::new(rt.alloc());
-        for len in 0..path.len() {
-            if path[len] == b'/' {
-                let rule = above.last_match(found.len(), len);
-                found.push(rule.map(|rule| rule.line()))?;
-            }
-        }
-        assert!(rt; found.as_slice() == *lines, "{rules:?} above {path:?}");
-        assert!(rt;
-            above.last_match_of_path().map(|rule| rule.line()) == *own,
-            "{rules:?} at {path:?}"
-        );
+    for row in ABOVE.trim().lines() {
+        let [rules, path, wanted, ..] = columns(row);
+        let file = read(rt.alloc(), &bytes_of(rt.alloc(), rules)?)?;
+        let found = lines_above(rt.alloc(), &file, path)?;
+        assert!(rt; found.trim() == wanted, "{row}, not {found}");
     }
     Ok(())
 }

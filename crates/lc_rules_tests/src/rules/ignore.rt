@@ -1,31 +1,13 @@
-//! Tests of ignore files. `tools/cases` makes each table of cases from the cases of `docs/cases/ignore.tsv` whose topic is the table's
-//! name.
+//! Tests of ignore files. `tools/cases` makes `CASES` from the cases of `docs/cases/ignore.tsv`.
 
-use lc_rules::{IgnoreFile, RuleFault, Verdict};
+use crate::rules::rows::{bytes_of, columns, word_of};
+use lc_rules::{IgnoreFile, RuleFault};
 use std::alloc::{AllocError, Global};
 use std::process::Abort;
 use std::test::Fail;
 
-const FILE: bool = false;
-
-const DIR: bool = true;
-
-/// The rules of a file, a path, whether the path is a directory, and the verdict on it.
-type Case = (&'static [u8], &'static [u8], bool, Verdict);
-
 fn read(alloc: Global, bytes: &[u8]) -> Result<IgnoreFile, AllocError> {
     IgnoreFile::read(alloc, bytes).map_err(|_| AllocError)
-}
-
-fn check(rt: &impl Abort, alloc: Global, cases: &[Case]) -> Result<(), AllocError> {
-    for (rules, path, is_dir, verdict) in cases {
-        let file = read(alloc, rules)?;
-        assert!(rt;
-            file.verdict(path, *is_dir) == *verdict,
-            "{rules:?} at {path:?}"
-        );
-    }
-    Ok(())
 }
 
 /// Asserts that a file has this many rules.
@@ -42,178 +24,114 @@ fn is_too_long(alloc: Global, bytes: &[u8]) -> bool {
     matches!(IgnoreFile::read(alloc, bytes), Err(RuleFault::TooLong))
 }
 
-const LINES: &[Case] = &[
-    (b"a\nb", b"b", FILE, Verdict::Ignored),
-    (b"\n\na\n\n", b"a", FILE, Verdict::Ignored),
-    (b"\xEF\xBB\xBFa", b"a", FILE, Verdict::Ignored),
-    (b"a\n\xEF\xBB\xBFb", b"b", FILE, Verdict::NoRule),
-    (b"a\r\nb\r\n", b"a", FILE, Verdict::Ignored),
-    (b"a\r\r\n", b"a\r", FILE, Verdict::Ignored),
-    (b"a\r\r\n", b"a", FILE, Verdict::NoRule),
-    (b"a\0b\n", b"a", FILE, Verdict::NoRule),
-];
-
-const COMMENTS: &[Case] = &[
-    (b"#a", b"#a", FILE, Verdict::NoRule),
-    (b"\\#a", b"#a", FILE, Verdict::Ignored),
-    (b" #a", b" #a", FILE, Verdict::Ignored),
-];
-
-const TRAILING_SPACES_QUOTED: &[Case] = &[
-    (b"a  ", b"a", FILE, Verdict::Ignored),
-    (b"a\\ ", b"a ", FILE, Verdict::Ignored),
-    (b"a\\ ", b"a", FILE, Verdict::NoRule),
-    (b"a\\  ", b"a ", FILE, Verdict::Ignored),
-    (b"a \\ ", b"a  ", FILE, Verdict::Ignored),
-    (b"a\\\\ ", b"a\\", FILE, Verdict::Ignored),
-    (b"foo \r\n", b"foo", FILE, Verdict::Ignored),
-    (b"a\t", b"a\t", FILE, Verdict::Ignored),
-    (b"a\t", b"a", FILE, Verdict::NoRule),
-    (b" a", b" a", FILE, Verdict::Ignored),
-];
-
-const NEGATION: &[Case] = &[
-    (b"!a", b"a", FILE, Verdict::Included),
-    (b"\\!a", b"!a", FILE, Verdict::Ignored),
-    (b"!!a", b"!a", FILE, Verdict::Included),
-    (b"a\n!", b"a", FILE, Verdict::Ignored),
-];
-
-const LAST_MATCH_DECIDES: &[Case] = &[
-    (b"*.o\n!k.o", b"k.o", FILE, Verdict::Included),
-    (b"*.o\n!k.o", b"a.o", FILE, Verdict::Ignored),
-    (b"!k.o\n*.o", b"k.o", FILE, Verdict::Ignored),
-    (b"*.o\n!k.o", b"z", FILE, Verdict::NoRule),
-];
-
-const MANUAL_EXAMPLE_CHECK: &[Case] = &[
-    (
-        b"/*\n!/foo\n/foo/*\n!/foo/bar",
-        b"foo",
-        DIR,
-        Verdict::Included,
-    ),
-    (
-        b"/*\n!/foo\n/foo/*\n!/foo/bar",
-        b"other",
-        DIR,
-        Verdict::Ignored,
-    ),
-    (
-        b"/*\n!/foo\n/foo/*\n!/foo/bar",
-        b"foo/x",
-        FILE,
-        Verdict::Ignored,
-    ),
-    (
-        b"/*\n!/foo\n/foo/*\n!/foo/bar",
-        b"foo/bar",
-        DIR,
-        Verdict::Included,
-    ),
-    (
-        b"/*\n!/foo\n/foo/*\n!/foo/bar",
-        b"foo/bar/z",
-        FILE,
-        Verdict::NoRule,
-    ),
-    (
-        b"/*\n!/foo\n/foo/*\n!/foo/bar",
-        b"other/y",
-        FILE,
-        Verdict::NoRule,
-    ),
-    (b"foo/*", b"foo/test.json", FILE, Verdict::Ignored),
-    (b"foo/*", b"foo/bar", DIR, Verdict::Ignored),
-    (b"foo/*", b"foo/bar/hello.c", FILE, Verdict::NoRule),
-];
-
-const SEPARATORS: &[Case] = &[
-    (b"frotz", b"a/b/frotz", FILE, Verdict::Ignored),
-    (b"/frotz", b"frotz", FILE, Verdict::Ignored),
-    (b"/frotz", b"a/frotz", FILE, Verdict::NoRule),
-    (b"doc/frotz", b"doc/frotz", FILE, Verdict::Ignored),
-    (b"doc/frotz", b"a/doc/frotz", FILE, Verdict::NoRule),
-    (b"doc/frotz/", b"doc/frotz", DIR, Verdict::Ignored),
-    (b"doc/frotz/", b"doc/frotz", FILE, Verdict::NoRule),
-    (b"doc/frotz/", b"a/doc/frotz", DIR, Verdict::NoRule),
-    (b"frotz/", b"a/frotz", DIR, Verdict::Ignored),
-    (b"frotz/", b"a/frotz", FILE, Verdict::NoRule),
-    (b"p\\/q", b"p/q", FILE, Verdict::Ignored),
-    (b"p\\/q", b"x/p/q", FILE, Verdict::NoRule),
-    (b"[a/b]", b"x/a", FILE, Verdict::Ignored),
-    (b"link/", b"link", FILE, Verdict::NoRule),
-];
-
-const WILDCARDS: &[Case] = &[
-    (b"*.c", b"a.c", FILE, Verdict::Ignored),
-    (b"a*c", b"ac", FILE, Verdict::Ignored),
-    (b"/a*c", b"a/c", FILE, Verdict::NoRule),
-    (b"?", b"a", FILE, Verdict::Ignored),
-    (b"?", b"ab", FILE, Verdict::NoRule),
-    (b"/a?c", b"a/c", FILE, Verdict::NoRule),
-    (b"a\\*", b"a*", FILE, Verdict::Ignored),
-    (b"a\\*", b"ab", FILE, Verdict::NoRule),
-    (b"**", b"a/b", FILE, Verdict::Ignored),
-    (b"x**/b", b"xyz/b", FILE, Verdict::Ignored),
-    (b"x**/b", b"x/y/b", FILE, Verdict::NoRule),
-    (b"***/b", b"q/b", FILE, Verdict::Ignored),
-    (b"***/b", b"q/r/b", FILE, Verdict::NoRule),
-];
-
-const DOUBLE_STARS: &[Case] = &[
-    (b"**/foo", b"foo", FILE, Verdict::Ignored),
-    (b"**/foo", b"a/b/foo", FILE, Verdict::Ignored),
-    (b"abc/**", b"abc", DIR, Verdict::NoRule),
-    (b"abc/**", b"abc/x/y", FILE, Verdict::Ignored),
-    (b"a/**/b", b"a/b", FILE, Verdict::Ignored),
-    (b"a/**/b", b"a/x/y/b", FILE, Verdict::Ignored),
-    (b"a/**/b", b"x/a/b", FILE, Verdict::NoRule),
-    (b"/**", b"a", FILE, Verdict::Ignored),
-    (b"/**", b"a/b", FILE, Verdict::Ignored),
-];
-
-const BRACKETS: &[Case] = &[
-    (b"[a-c]", b"b", FILE, Verdict::Ignored),
-    (b"[]a]", b"]", FILE, Verdict::Ignored),
-    (b"[]a]", b"b", FILE, Verdict::NoRule),
-    (b"[!a-c]", b"d", FILE, Verdict::Ignored),
-    (b"[^a-c]", b"b", FILE, Verdict::NoRule),
-    (b"[z-a]", b"z", FILE, Verdict::Ignored),
-    (b"[z-a]", b"a", FILE, Verdict::NoRule),
-    (b"[a-]", b"-", FILE, Verdict::Ignored),
-    (b"[\\]]", b"]", FILE, Verdict::Ignored),
-    (b"/x[!a]y", b"x/y", FILE, Verdict::NoRule),
-    (b"[[:digit:]-]", b"7", FILE, Verdict::Ignored),
-    (b"[[:digit:]-]", b"-", FILE, Verdict::Ignored),
-    (b"[[:digit:]-]", b"a", FILE, Verdict::NoRule),
-    (b"[[:upper:]]?", b"Q1", FILE, Verdict::Ignored),
-    (b"[[:upper:]]?", b"q1", FILE, Verdict::NoRule),
-    (b"[[:]", b":", FILE, Verdict::Ignored),
-];
-
-const DEAD_PATTERNS: &[Case] = &[
-    (b"[[:foo:]]", b"f", FILE, Verdict::NoRule),
-    (b"[ab", b"[ab", FILE, Verdict::NoRule),
-    (b"a\\", b"a\\", FILE, Verdict::NoRule),
-    (b"a//b", b"a/b", FILE, Verdict::NoRule),
-    (b"a//", b"a", DIR, Verdict::NoRule),
-    (b"/", b"a", DIR, Verdict::NoRule),
-];
+/// What a case shows, the rules of a file, a path, whether it is a file or a directory, and the verdict on it.
+const CASES: &str = r#"
+    lines | a\nb | b | file | ignored
+    lines | \n\na\n\n | a | file | ignored
+    lines | \xef\xbb\xbfa | a | file | ignored
+    lines | a\n\xef\xbb\xbfb | b | file | none
+    lines | a\r\nb\r\n | a | file | ignored
+    lines | a\r\r\n | a\r | file | ignored
+    lines | a\r\r\n | a | file | none
+    lines | a\0b\n | a | file | none
+    comments | #a | #a | file | none
+    comments | \\#a | #a | file | ignored
+    comments | \x20#a | \x20#a | file | ignored
+    trailing_spaces_quoted | a \x20 | a | file | ignored
+    trailing_spaces_quoted | a\\\x20 | a\x20 | file | ignored
+    trailing_spaces_quoted | a\\\x20 | a | file | none
+    trailing_spaces_quoted | a\\ \x20 | a\x20 | file | ignored
+    trailing_spaces_quoted | a \\\x20 | a \x20 | file | ignored
+    trailing_spaces_quoted | a\\\\\x20 | a\\ | file | ignored
+    trailing_spaces_quoted | foo \r\n | foo | file | ignored
+    trailing_spaces_quoted | a\t | a\t | file | ignored
+    trailing_spaces_quoted | a\t | a | file | none
+    trailing_spaces_quoted | \x20a | \x20a | file | ignored
+    negation | !a | a | file | included
+    negation | \\!a | !a | file | ignored
+    negation | !!a | !a | file | included
+    negation | a\n! | a | file | ignored
+    last_match_decides | *.o\n!k.o | k.o | file | included
+    last_match_decides | *.o\n!k.o | a.o | file | ignored
+    last_match_decides | !k.o\n*.o | k.o | file | ignored
+    last_match_decides | *.o\n!k.o | z | file | none
+    manual_example_check | /*\n!/foo\n/foo/*\n!/foo/bar | foo | dir | included
+    manual_example_check | /*\n!/foo\n/foo/*\n!/foo/bar | other | dir | ignored
+    manual_example_check | /*\n!/foo\n/foo/*\n!/foo/bar | foo/x | file | ignored
+    manual_example_check | /*\n!/foo\n/foo/*\n!/foo/bar | foo/bar | dir | included
+    manual_example_check | /*\n!/foo\n/foo/*\n!/foo/bar | foo/bar/z | file | none
+    manual_example_check | /*\n!/foo\n/foo/*\n!/foo/bar | other/y | file | none
+    manual_example_check | foo/* | foo/test.json | file | ignored
+    manual_example_check | foo/* | foo/bar | dir | ignored
+    manual_example_check | foo/* | foo/bar/hello.c | file | none
+    separators | frotz | a/b/frotz | file | ignored
+    separators | /frotz | frotz | file | ignored
+    separators | /frotz | a/frotz | file | none
+    separators | doc/frotz | doc/frotz | file | ignored
+    separators | doc/frotz | a/doc/frotz | file | none
+    separators | doc/frotz/ | doc/frotz | dir | ignored
+    separators | doc/frotz/ | doc/frotz | file | none
+    separators | doc/frotz/ | a/doc/frotz | dir | none
+    separators | frotz/ | a/frotz | dir | ignored
+    separators | frotz/ | a/frotz | file | none
+    separators | p\\/q | p/q | file | ignored
+    separators | p\\/q | x/p/q | file | none
+    separators | [a/b] | x/a | file | ignored
+    separators | link/ | link | file | none
+    wildcards | *.c | a.c | file | ignored
+    wildcards | a*c | ac | file | ignored
+    wildcards | /a*c | a/c | file | none
+    wildcards | ? | a | file | ignored
+    wildcards | ? | ab | file | none
+    wildcards | /a?c | a/c | file | none
+    wildcards | a\\* | a* | file | ignored
+    wildcards | a\\* | ab | file | none
+    wildcards | ** | a/b | file | ignored
+    wildcards | x**/b | xyz/b | file | ignored
+    wildcards | x**/b | x/y/b | file | none
+    wildcards | ***/b | q/b | file | ignored
+    wildcards | ***/b | q/r/b | file | none
+    double_stars | **/foo | foo | file | ignored
+    double_stars | **/foo | a/b/foo | file | ignored
+    double_stars | abc/** | abc | dir | none
+    double_stars | abc/** | abc/x/y | file | ignored
+    double_stars | a/**/b | a/b | file | ignored
+    double_stars | a/**/b | a/x/y/b | file | ignored
+    double_stars | a/**/b | x/a/b | file | none
+    double_stars | /** | a | file | ignored
+    double_stars | /** | a/b | file | ignored
+    brackets | [a-c] | b | file | ignored
+    brackets | []a] | ] | file | ignored
+    brackets | []a] | b | file | none
+    brackets | [!a-c] | d | file | ignored
+    brackets | [^a-c] | b | file | none
+    brackets | [z-a] | z | file | ignored
+    brackets | [z-a] | a | file | none
+    brackets | [a-] | - | file | ignored
+    brackets | [\\]] | ] | file | ignored
+    brackets | /x[!a]y | x/y | file | none
+    brackets | [[:digit:]-] | 7 | file | ignored
+    brackets | [[:digit:]-] | - | file | ignored
+    brackets | [[:digit:]-] | a | file | none
+    brackets | [[:upper:]]? | Q1 | file | ignored
+    brackets | [[:upper:]]? | q1 | file | none
+    brackets | [[:] | : | file | ignored
+    dead_patterns | [[:foo:]] | f | file | none
+    dead_patterns | [ab | [ab | file | none
+    dead_patterns | a\\ | a\\ | file | none
+    dead_patterns | a//b | a/b | file | none
+    dead_patterns | a// | a | dir | none
+    dead_patterns | / | a | dir | none
+"#;
 
 #[test]
 fn each_case_holds(rt: HostRuntime) -> Result<(), Fail> {
-    check(&rt, rt.alloc(), LINES)?;
-    check(&rt, rt.alloc(), COMMENTS)?;
-    check(&rt, rt.alloc(), TRAILING_SPACES_QUOTED)?;
-    check(&rt, rt.alloc(), NEGATION)?;
-    check(&rt, rt.alloc(), LAST_MATCH_DECIDES)?;
-    check(&rt, rt.alloc(), MANUAL_EXAMPLE_CHECK)?;
-    check(&rt, rt.alloc(), SEPARATORS)?;
-    check(&rt, rt.alloc(), WILDCARDS)?;
-    check(&rt, rt.alloc(), DOUBLE_STARS)?;
-    check(&rt, rt.alloc(), BRACKETS)?;
-    check(&rt, rt.alloc(), DEAD_PATTERNS)?;
+    for row in CASES.trim().lines() {
+        let [_, rules, path, kind, verdict] = columns(row);
+        let file = read(rt.alloc(), &bytes_of(rt.alloc(), rules)?)?;
+        let found = file.verdict(&bytes_of(rt.alloc(), path)?, kind == "dir");
+        assert!(rt; word_of(found) == verdict, "{row}");
+    }
     Ok(())
 }
 

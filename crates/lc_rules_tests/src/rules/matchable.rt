@@ -6,33 +6,9 @@ use std::test::Fail;
 
 /// Lines that give no rule, or a rule that matches nothing.
 const NEVER: &[&[u8]] = &[
-    b"",
-    b"\r",
-    b"   ",
-    b"# x",
-    b"#",
-    b"!",
-    b"[",
-    b"[a",
-    b"[[:letter:]]",
-    b"a\\",
-    b"/",
-    b"//",
-    b"!/",
-    b"src//x",
-    b".",
-    b"..",
-    b"./",
-    b"../",
-    b"./a",
-    b"!./a",
-    b"/./a",
-    b"a/../b",
-    b"a/..",
-    b"../[ab]",
-    b"a/./\\*",
-    b"./a  ",
-    b"a/..\r",
+    b"", b"\r", b"   ", b"# x", b"#", b"!", b"[", b"[a", b"[[:x:]]", b"a\\", b"/", b"//", b"!/",
+    b"src//x", b".", b"..", b"./", b"../", b"./a", b"!./a", b"/./a", b"a/../b", b"a/..",
+    b"../[ab]", b"a/./\\*", b"./a  ", b"a/..\r",
 ];
 
 /// Lines for which `can_match` is true: each gives a rule that may match a path.

@@ -1,30 +1,26 @@
 //! Functions that compare what the calls of a tree return with what is expected.
 
 use lc_io::{Source, WholeFault, read_whole};
-use lc_tree::{Kind, Listing, ReadFault, Tree};
-use std::alloc::Global;
+use lc_tests::{push_kind, push_name};
+use lc_tree::{Listing, ReadFault, Tree};
+use std::alloc::{AllocError, Global};
 use std::process::Abort;
 
-/// The names of the expected entries, with their kinds.
-pub(super) type Entries<'a> = &'a [(&'a [u8], Kind)];
-
-/// The expected result of listing a directory: its entries, or an error.
-pub(super) type Listed<'a> = Result<Entries<'a>, ReadFault>;
+/// The expected result of listing a directory: the text of its entries, or an error.
+pub(super) type Listed<'a> = Result<&'a str, ReadFault>;
 
 /// The expected bytes of a file and how its reads stop, or the error of opening the file.
 pub(super) type Given<'a> = Result<(&'a [u8], Result<(), WholeFault>), ReadFault>;
 
-pub(super) fn are_entries(listing: &Listing, wanted: Entries) -> bool {
-    let entries = listing.entries();
-    if entries.len() != wanted.len() {
-        return false;
+/// Returns the names of a listing's entries as text, each with the mark of its kind (see `push_kind`).
+pub(super) fn text_of(alloc: Global, listing: &Listing) -> Result<String, AllocError> {
+    let mut text = String::new(alloc);
+    for entry in listing.entries() {
+        push_name(&mut text, &entry.name)?;
+        push_kind(&mut text, entry.kind)?;
+        text.push_str(" ")?;
     }
-    for (entry, (name, kind)) in entries.iter().zip(wanted) {
-        if entry.name.as_slice() != *name || entry.kind != *kind {
-            return false;
-        }
-    }
-    true
+    Ok(text)
 }
 
 /// Checks that listing the directory at each path has the expected result.
@@ -37,7 +33,7 @@ pub(super) fn check_listings<T: Tree>(
     for (path, wanted) in cases {
         let same = match (tree.list(alloc, path), wanted) {
             (Err(ReadFault::Memory), _) => return Err(ReadFault::Memory),
-            (Ok(listing), Ok(wanted)) => are_entries(&listing, wanted),
+            (Ok(listing), Ok(wanted)) => text_of(alloc, &listing)?.trim() == *wanted,
             (Err(fault), Err(wanted)) => fault == *wanted,
             (Ok(_), Err(_)) | (Err(_), Ok(_)) => false,
         };

@@ -1,5 +1,6 @@
 //! Tests that list large directories in parts, and compare each listing with the listing by one thread.
 
+use crate::tree::checks::text_of;
 use crate::tree::system::{Reads, Signals, System};
 use lc_tests::Sketch;
 use lc_tree::{
@@ -8,7 +9,6 @@ use lc_tree::{
 use std::alloc::Global;
 use std::os::unix::fs::symlink;
 use std::process::Abort;
-use std::sync::atomic::AtomicU64;
 use std::test::Fail;
 use std::thread::Threads;
 use std::{fs, io};
@@ -30,19 +30,6 @@ fn make_folder(rt: &HostRuntime) -> io::Result<()> {
     Ok(())
 }
 
-fn are_same(listing: &Listing, wanted: &Listing) -> bool {
-    let (entries, wanted) = (listing.entries(), wanted.entries());
-    if entries.len() != wanted.len() {
-        return false;
-    }
-    for (entry, wanted) in entries.iter().zip(wanted) {
-        if entry.name != wanted.name || entry.kind != wanted.kind {
-            return false;
-        }
-    }
-    true
-}
-
 /// Lists the tree's top with the help of this many idle threads. Checks that the result is the same as by one thread, and that all idle
 /// threads are given back. Returns how many entries the listing has.
 fn check_listing<T: Tree, R: Threads + Abort + Sync>(
@@ -51,20 +38,15 @@ fn check_listing<T: Tree, R: Threads + Abort + Sync>(
     tree: &T,
     threads: u32,
 ) -> Result<usize, ReadFault> {
-    let idle = IdleThreads::new(threads.saturating_add(1));
-    for _ in 0..threads {
-        idle.begin();
-    }
+    let idle = IdleThreads::all_idle(threads.saturating_add(1));
     let listed = list_in_parts(rt, alloc, tree, b"", &idle);
     let free = idle.take(u32::MAX);
     let back = free.count() == threads;
     idle.give_back(free);
     assert!(rt; back);
     let listing = listed?;
-    assert!(rt;
-        are_same(&listing, &tree.list(alloc, b"")?),
-        "{threads} threads"
-    );
+    let same = text_of(alloc, &listing)? == text_of(alloc, &tree.list(alloc, b"")?)?;
+    assert!(rt; same, "{threads} threads");
     Ok(listing.entries().len())
 }
 
@@ -88,9 +70,11 @@ fn trees_without_names_are_listed(rt: HostRuntime) -> Result<(), Fail> {
     Ok(())
 }
 
-/// A read of a directory that returns the same name many times.
+/// A read of a directory that returns the same name 126 times.
 const F: Option<&[u8]> = Some(
-    b"f\0f\0f\0f\0f\0f\0f\0f\0f\0f\0f\0f\0f\0f\0f\0f\0f\0f\0f\0f\0f\0f\0f\0f\0f\0f\0f\0f\0f\0f\0f\0f\0f\0f\0f\0f\0f\0f\0f\0f\0f\0f\0",
+    b"f\0f\0f\0f\0f\0f\0f\0f\0f\0f\0f\0f\0f\0f\0f\0f\0f\0f\0f\0f\0f\0f\0f\0f\0f\0f\0f\0f\0f\0f\0f\0f\0f\0f\0f\0f\0f\0f\0f\0f\0f\0f\0\
+      f\0f\0f\0f\0f\0f\0f\0f\0f\0f\0f\0f\0f\0f\0f\0f\0f\0f\0f\0f\0f\0f\0f\0f\0f\0f\0f\0f\0f\0f\0f\0f\0f\0f\0f\0f\0f\0f\0f\0f\0f\0f\0\
+      f\0f\0f\0f\0f\0f\0f\0f\0f\0f\0f\0f\0f\0f\0f\0f\0f\0f\0f\0f\0f\0f\0f\0f\0f\0f\0f\0f\0f\0f\0f\0f\0f\0f\0f\0f\0f\0f\0f\0f\0f\0f\0",
 );
 
 const UNNAMED: Option<&[u8]> = Some(b"f\xFF\0");
@@ -99,31 +83,17 @@ const DENIED: Option<&[u8]> = Some(b"x\0");
 
 /// Reads of a directory that return over 1,024 names, and the expected error of listing the directory.
 const FAULTS: [(Reads, ReadFault); 4] = [
+    (&[F, F, F, F, F, F, F, F, F], ReadFault::Twice),
     (
-        &[
-            F, F, F, F, F, F, F, F, F, F, F, F, F, F, F, F, F, F, F, F, F, F, F, F, F,
-        ],
-        ReadFault::Twice,
-    ),
-    (
-        &[
-            F, F, UNNAMED, F, F, F, F, F, F, F, F, F, F, F, F, F, F, F, F, F, F, F, DENIED, F, F,
-            F, F,
-        ],
+        &[F, UNNAMED, F, F, F, F, F, F, F, DENIED, F],
         ReadFault::Unnamed,
     ),
     (
-        &[
-            F, F, DENIED, F, F, F, F, F, F, F, F, F, F, F, F, F, F, F, F, F, F, F, UNNAMED, F, F,
-            F, F,
-        ],
+        &[F, DENIED, F, F, F, F, F, F, F, UNNAMED, F],
         ReadFault::Failed,
     ),
     (
-        &[
-            F, F, UNNAMED, F, F, F, F, F, F, F, F, F, F, F, F, F, F, F, F, F, F, F, F, F, F, F,
-            None,
-        ],
+        &[F, UNNAMED, F, F, F, F, F, F, F, F, None],
         ReadFault::Failed,
     ),
 ];
@@ -131,10 +101,7 @@ const FAULTS: [(Reads, ReadFault); 4] = [
 #[test]
 fn the_first_fault_is_answered(rt: HostRuntime) -> Result<(), Fail> {
     for (reads, wanted) in FAULTS {
-        let signals = Signals {
-            calls: AtomicU64::new(0),
-            period: 1,
-        };
+        let signals = Signals::new(1);
         let system = System {
             host: &rt,
             given: Some(reads),

@@ -1,55 +1,22 @@
 //! Tests of what the calls of trees in memory return.
 
-use crate::tree::checks::{Entries, Given, Listed, check_files, check_listings};
+use crate::tree::checks::{Given, Listed, check_files, check_listings};
 use lc_io::WholeFault;
-use lc_tests::Sketch;
-use lc_tree::{Kind, MemTree, Node, OtherKind, ReadFault};
+use lc_tests::{Sketch, tree};
+use lc_tree::{MemTree, Node, OtherKind, ReadFault};
 use std::alloc::Global;
 use std::process::Abort;
 use std::test::Fail;
 
-/// A tree with three directories: one with a node of each kind, one with a name twice, and one with a bad name twice.
-const NODES: Sketch = Sketch::Dir(&[
-    (
-        b"twice",
-        Sketch::Dir(&[(b"x", Sketch::Failing(b"")), (b"x", Sketch::Closed)]),
-    ),
-    (
-        b"bad",
-        Sketch::Dir(&[
-            (b"..", Sketch::Other(OtherKind::Special)),
-            (b"..", Sketch::Other(OtherKind::Special)),
-        ]),
-    ),
-    (
-        b"all",
-        Sketch::Dir(&[
-            (b"other", Sketch::Other(OtherKind::Special)),
-            (b"closed", Sketch::Closed),
-            (b"failing", Sketch::Failing(b"xyz")),
-            (b"file", Sketch::File(b"one\ntwo")),
-            (b"empty", Sketch::File(b"")),
-        ]),
-    ),
-]);
-
-const TOP: Entries = &[
-    (b"all", Kind::Dir),
-    (b"bad", Kind::Dir),
-    (b"twice", Kind::Dir),
-];
-
-const ALL: Entries = &[
-    (b"closed", Kind::Dir),
-    (b"empty", Kind::File),
-    (b"failing", Kind::File),
-    (b"file", Kind::File),
-    (b"other", Kind::Other(OtherKind::Special)),
-];
+/// A tree with three directories: one with a name twice, one with a bad name twice, and one with a node of each kind.
+const NODES: &str = "
+    twice/{ x! x/! }
+    bad/{ ..@ ..@ }
+    all/{ other@ closed/! failing!xyz file=one;two empty= }";
 
 const DIRECTORIES: &[(&[u8], Listed)] = &[
-    (b"", Ok(TOP)),
-    (b"all", Ok(ALL)),
+    (b"", Ok("all/ bad/ twice/")),
+    (b"all", Ok("closed/ empty failing file other@")),
     (b"twice", Err(ReadFault::Twice)),
     (b"bad", Err(ReadFault::BadName)),
     (b"all/closed", Err(ReadFault::Failed)),
@@ -79,33 +46,35 @@ const NOT_LISTED: &[(&[u8], Listed)] = &[(b"", Err(ReadFault::Failed))];
 
 const TOP_FILE: &[(&[u8], Given)] = &[(b"", Ok((b"top", Ok(()))))];
 
-/// A tree, the expected results of listing directories of the tree, and of opening and reading files.
-type Case = (
-    Sketch<'static>,
-    &'static [(&'static [u8], Listed<'static>)],
-    &'static [(&'static [u8], Given<'static>)],
-);
-
-const CASES: &[Case] = &[
-    (NODES, DIRECTORIES, FILES),
-    (Sketch::Closed, NOT_LISTED, &[]),
-    (Sketch::Other(OtherKind::Special), NOT_LISTED, &[]),
-    (Sketch::File(b""), NOT_LISTED, &[]),
-    (Sketch::Failing(b""), NOT_LISTED, &[]),
-    (Sketch::File(b"top"), &[], TOP_FILE),
+/// Trees whose top can't be listed.
+const NOT_DIRECTORIES: &[Sketch] = &[
+    Sketch::Closed,
+    Sketch::Other(OtherKind::Special),
+    Sketch::File(b""),
+    Sketch::Failing(b""),
 ];
 
-fn check(rt: &impl Abort, alloc: Global, node: &Node, case: &Case) -> Result<(), ReadFault> {
+/// Checks the results of listing directories of a tree, and of opening and reading files.
+fn check(
+    rt: &impl Abort,
+    alloc: Global,
+    node: &Node,
+    directories: &[(&[u8], Listed)],
+    files: &[(&[u8], Given)],
+) -> Result<(), ReadFault> {
     let tree = MemTree::new(node);
-    check_listings(rt, alloc, &tree, case.1)?;
-    check_files(rt, alloc, &tree, case.2)
+    check_listings(rt, alloc, &tree, directories)?;
+    check_files(rt, alloc, &tree, files)
 }
 
 #[test]
 fn nodes_are_listed_and_opened(rt: HostRuntime) -> Result<(), Fail> {
-    for case in CASES {
-        let node = case.0.node(rt.alloc())?;
-        check(&rt, rt.alloc(), &node, case)?;
+    let alloc = rt.alloc();
+    check(&rt, alloc, &tree(alloc, NODES)?, DIRECTORIES, FILES)?;
+    for sketch in NOT_DIRECTORIES {
+        check(&rt, alloc, &sketch.node(alloc)?, NOT_LISTED, &[])?;
     }
+    let top = Sketch::File(b"top").node(alloc)?;
+    check(&rt, alloc, &top, &[], TOP_FILE)?;
     Ok(())
 }

@@ -14,11 +14,19 @@ pub(super) type Reads = &'static [Option<&'static [u8]>];
 /// Interrupts all calls except every `period`-th call.
 #[derive(Drop)]
 pub(super) struct Signals {
-    pub calls: AtomicU64,
-    pub period: u64,
+    calls: AtomicU64,
+    period: u64,
 }
 
 impl Signals {
+    /// Makes signals that interrupt all calls except every `period`-th call.
+    pub(super) fn new(period: u64) -> Signals {
+        Signals {
+            calls: AtomicU64::new(0),
+            period,
+        }
+    }
+
     fn call(&self) -> IoResult<()> {
         let before = self.calls.fetch_add(1, Ordering::SeqCst);
         if before.wrapping_add(1) % self.period.max(1) == 0 {

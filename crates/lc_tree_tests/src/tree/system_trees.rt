@@ -1,13 +1,12 @@
 //! Tests of `SysTree` on a folder of the host, and on a directory whose names the tests choose. In some cases, system calls are interrupted
 //! as by a signal.
 
-use crate::tree::checks::{Entries, Given, Listed, check_files, check_listings};
+use crate::tree::checks::{Given, Listed, check_files, check_listings};
 use crate::tree::system::{Reads, Signals, System};
 use lc_io::WholeFault;
 use lc_tree::{FileSystems, Kind, OtherKind, ReadFault, SysTree, Tree};
 use std::os::unix::fs::symlink;
 use std::process::Abort;
-use std::sync::atomic::AtomicU64;
 use std::test::Fail;
 use std::{fs, io};
 
@@ -27,195 +26,117 @@ fn make_folder(rt: &HostRuntime) -> io::Result<()> {
     symlink(rt, "missing", "lc_tree_folder/to_nothing")
 }
 
-/// The path of a tree's top, and the expected results for directories and files of the tree. `reads` are what reads of the top return, or
-/// `None` for the host's own reads. All calls except every `period`-th call are interrupted.
-#[derive(Clone, Copy)]
-struct Case {
-    top: &'static str,
-    reads: Option<Reads>,
-    period: u64,
-    directories: &'static [(&'static [u8], Listed<'static>)],
-    files: &'static [(&'static [u8], Given<'static>)],
-}
+const TOP: Listed = Ok("..f .e a b/ to_a@ to_b@ to_nothing@");
 
-const TOP: Entries = &[
-    (b"..f", Kind::File),
-    (b".e", Kind::File),
-    (b"a", Kind::File),
-    (b"b", Kind::Dir),
-    (b"to_a", Kind::Other(OtherKind::Special)),
-    (b"to_b", Kind::Other(OtherKind::Special)),
-    (b"to_nothing", Kind::Other(OtherKind::Special)),
+const DIRECTORIES: &[(&[u8], Listed)] = &[
+    (b"", TOP),
+    (b"b", Ok("c")),
+    (b"a", Err(ReadFault::Failed)),
+    (b"to_b", Err(ReadFault::Failed)),
+    (b"missing", Err(ReadFault::Failed)),
+    (b"b/\xFF", Err(ReadFault::Failed)),
 ];
 
-const C_ALONE: Entries = &[(b"c", Kind::File)];
+const FILES: &[(&[u8], Given)] = &[
+    (b"a", Ok((b"one\n", Ok(())))),
+    (b"b/c", Ok((b"", Ok(())))),
+    (b"b", Ok((b"", Err(WholeFault::Read)))),
+    (b"missing", Err(ReadFault::Failed)),
+    (b"a/\xFF", Err(ReadFault::Failed)),
+];
 
-/// The folder of the host, if no call is interrupted.
-const IN_FOLDER: Case = Case {
-    top: FOLDER,
-    reads: None,
-    period: 1,
-    directories: &[
-        (b"", Ok(TOP)),
-        (b"b", Ok(C_ALONE)),
-        (b"a", Err(ReadFault::Failed)),
-        (b"to_b", Err(ReadFault::Failed)),
-        (b"missing", Err(ReadFault::Failed)),
-        (b"b/\xFF", Err(ReadFault::Failed)),
-    ],
-    files: &[
-        (b"a", Ok((b"one\n", Ok(())))),
-        (b"b/c", Ok((b"", Ok(())))),
-        (b"b", Ok((b"", Err(WholeFault::Read)))),
-        (b"missing", Err(ReadFault::Failed)),
-        (b"a/\xFF", Err(ReadFault::Failed)),
-    ],
-};
+const LISTED: &[(&[u8], Listed)] = &[(b"", TOP)];
+
+const OPENED: &[(&[u8], Given)] = &[(b"a", Ok((b"one\n", Ok(()))))];
 
 const NOT_LISTED: &[(&[u8], Listed)] = &[(b"", Err(ReadFault::Failed))];
 
-/// A tree whose top can't be listed.
-const NO_TOP: Case = Case {
-    top: "",
-    directories: NOT_LISTED,
-    files: &[],
-    ..IN_FOLDER
-};
+const NOT_OPENED: &[(&[u8], Given)] = &[(b"a", Err(ReadFault::Failed))];
 
-/// The listing of the folder and one file of it, if interrupted calls are tried again and succeed.
-const INTERRUPTED: Case = Case {
-    directories: &[(b"", Ok(TOP))],
-    files: &[(b"a", Ok((b"one\n", Ok(()))))],
-    ..IN_FOLDER
-};
-
-/// A directory that has no names.
-const GIVEN: Case = Case {
-    top: "top",
-    reads: Some(&[]),
-    directories: &[(b"", Ok(&[]))],
-    ..NO_TOP
-};
+/// A tree of the host: the path of its top, the period of its signals (see `Signals`), and the expected results for directories and files.
+type Case = (
+    &'static str,
+    u64,
+    &'static [(&'static [u8], Listed<'static>)],
+    &'static [(&'static [u8], Given<'static>)],
+);
 
 const CASES: &[Case] = &[
-    IN_FOLDER,
+    (FOLDER, 1, DIRECTORIES, FILES),
     // A link is followed where it is the top.
-    Case {
-        top: "lc_tree_folder/to_b",
-        directories: &[(b"", Ok(C_ALONE))],
-        ..NO_TOP
-    },
-    NO_TOP,
-    Case {
-        top: "lc_tree_folder/a",
-        ..NO_TOP
-    },
-    Case {
-        top: "lc_tree_folder/missing",
-        ..NO_TOP
-    },
-    Case {
-        top: "a\0",
-        ..NO_TOP
-    },
-    INTERRUPTED,
-    Case {
-        period: 2,
-        ..INTERRUPTED
-    },
-    Case {
-        period: 65_536,
-        ..INTERRUPTED
-    },
+    ("lc_tree_folder/to_b", 1, &[(b"", Ok("c"))], &[]),
+    ("", 1, NOT_LISTED, &[]),
+    ("lc_tree_folder/a", 1, NOT_LISTED, &[]),
+    ("lc_tree_folder/missing", 1, NOT_LISTED, &[]),
+    ("a\0", 1, NOT_LISTED, &[]),
+    // Interrupted calls are tried again, and succeed.
+    (FOLDER, 2, LISTED, OPENED),
+    (FOLDER, 65_536, LISTED, OPENED),
     // Here they end with no answer.
-    Case {
-        period: 65_537,
-        top: FOLDER,
-        ..NO_TOP
-    },
-    Case {
-        period: 65_537,
-        directories: &[],
-        files: &[(b"a", Err(ReadFault::Failed))],
-        ..IN_FOLDER
-    },
-    GIVEN,
-    Case {
-        reads: Some(&[Some(b".\0..\0")]),
-        ..GIVEN
-    },
-    Case {
-        reads: Some(&[Some(b"f\0.\0d\0..\0")]),
-        directories: &[(b"", Ok(&[(b"d", Kind::Dir), (b"f", Kind::File)]))],
-        ..GIVEN
-    },
-    Case {
-        reads: Some(&[Some(b"l\0"), Some(b"f\0")]),
-        directories: &[(
-            b"",
-            Ok(&[(b"f", Kind::File), (b"l", Kind::Other(OtherKind::Special))]),
-        )],
-        ..GIVEN
-    },
-    Case {
-        reads: Some(&[Some(b"f\0gone\0")]),
-        directories: &[(b"", Ok(&[(b"f", Kind::File)]))],
-        ..GIVEN
-    },
-    Case {
-        reads: Some(&[Some(b"f\0denied\0x\0")]),
-        directories: NOT_LISTED,
-        ..GIVEN
-    },
-    Case {
-        reads: Some(&[Some(b"f\0"), None]),
-        directories: NOT_LISTED,
-        ..GIVEN
-    },
-    Case {
-        reads: Some(&[Some(b"f\0f\xFF\0")]),
-        directories: &[(b"", Err(ReadFault::Unnamed))],
-        ..GIVEN
-    },
-    Case {
-        reads: Some(&[Some(b"f\0"), Some(b"f\0")]),
-        directories: &[(b"", Err(ReadFault::Twice))],
-        ..GIVEN
-    },
-    Case {
-        reads: Some(&[Some(b"f/f\0")]),
-        directories: &[(b"", Err(ReadFault::BadName))],
-        ..GIVEN
-    },
+    (FOLDER, 65_537, NOT_LISTED, &[]),
+    (FOLDER, 65_537, &[], NOT_OPENED),
 ];
 
-fn check(rt: &impl Abort, host: &HostRuntime, case: &Case) -> Result<(), ReadFault> {
-    let signals = Signals {
-        calls: AtomicU64::new(0),
-        period: case.period,
-    };
+/// What the reads of a directory return, and the expected listing.
+const GIVEN: &[(Reads, Listed)] = &[
+    (&[], Ok("")),
+    (&[Some(b".\0..\0")], Ok("")),
+    (&[Some(b"f\0.\0d\0..\0")], Ok("d/ f")),
+    (&[Some(b"l\0"), Some(b"f\0")], Ok("f l@")),
+    (&[Some(b"f\0gone\0")], Ok("f")),
+    (&[Some(b"f\0denied\0x\0")], Err(ReadFault::Failed)),
+    (&[Some(b"f\0"), None], Err(ReadFault::Failed)),
+    (&[Some(b"f\0f\xFF\0")], Err(ReadFault::Unnamed)),
+    (&[Some(b"f\0"), Some(b"f\0")], Err(ReadFault::Twice)),
+    (&[Some(b"f/f\0")], Err(ReadFault::BadName)),
+];
+
+fn check(
+    rt: &impl Abort,
+    host: &HostRuntime,
+    (top, period, directories, files): &Case,
+) -> Result<(), ReadFault> {
+    let signals = Signals::new(*period);
     let system = System {
         host,
-        given: case.reads,
+        given: None,
         signals: &signals,
     };
-    let tree = SysTree::new(&system, host.alloc(), case.top, FileSystems::All)?;
-    check_listings(rt, host.alloc(), &tree, case.directories)?;
-    check_files(rt, host.alloc(), &tree, case.files)
+    let tree = SysTree::new(&system, host.alloc(), top, FileSystems::All)?;
+    check_listings(rt, host.alloc(), &tree, directories)?;
+    check_files(rt, host.alloc(), &tree, files)
 }
 
-fn check_all(rt: &impl Abort, host: &HostRuntime) -> Result<(), ReadFault> {
-    for case in CASES {
-        check(rt, host, case)?;
-    }
-    Ok(())
+fn check_given(
+    rt: &impl Abort,
+    host: &HostRuntime,
+    (reads, listed): &(Reads, Listed),
+) -> Result<(), ReadFault> {
+    let signals = Signals::new(1);
+    let system = System {
+        host,
+        given: Some(*reads),
+        signals: &signals,
+    };
+    let tree = SysTree::new(&system, host.alloc(), "top", FileSystems::All)?;
+    check_listings(rt, host.alloc(), &tree, &[(b"", *listed)])
 }
 
 #[test]
 fn folders_are_listed_and_files_opened(rt: HostRuntime) -> Result<(), Fail> {
     make_folder(&rt)?;
-    check_all(&rt, &rt)?;
+    for case in CASES {
+        check(&rt, &rt, case)?;
+    }
     fs::remove_dir_all(&rt, FOLDER)?;
+    Ok(())
+}
+
+#[test]
+fn names_may_vanish_fail_or_repeat(rt: HostRuntime) -> Result<(), Fail> {
+    for case in GIVEN {
+        check_given(&rt, &rt, case)?;
+    }
     Ok(())
 }
 

@@ -1,8 +1,7 @@
 //! In-memory trees that are made at random from a seed, each with the sums that a walk must find.
 ghost use Rattle.std.specs.Prelude.{◌<◌};
 
-use crate::walk::walked::{Board, ONLY_FILES, report_of, walk_options};
-use lc_level::Filters;
+use crate::walk::walked::{Board, ONLY_FILES, report_over};
 use lc_tree::{MemTree, Node};
 use lc_walk::{Report, Sums};
 use std::alloc::{AllocError, Global};
@@ -156,10 +155,8 @@ impl Drawn {
         board: Board,
         threads: u32,
     ) -> Result<Report, AllocError> {
-        let filters = Filters::none(alloc);
-        let options = walk_options(rt, threads, self.directories, ONLY_FILES, &filters);
-        let answer = board.walk(rt, alloc, &MemTree::new(&self.top), &options);
-        let report = report_of(rt, answer)?;
+        let (tree, run) = (MemTree::new(&self.top), (board, threads));
+        let report = report_over(rt, alloc, &tree, run, self.directories, ONLY_FILES)?;
         assert!(rt;
             self.is_told(&report),
             "{:?}, {} directories, {:?}",

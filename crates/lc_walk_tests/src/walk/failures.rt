@@ -1,12 +1,11 @@
 //! Tests of walks in which one call on the tree fails: which error the walk reports, and which files and directories it still finds.
 ghost use Rattle.std.specs.Prelude.{◌<◌, IfOk, IfSome};
 
-use crate::walk::told::push_faults;
-use crate::walk::walked::{BOARDS, Board, ONLY_FILES, report_of, walk_options};
+use crate::walk::walked::{BOARDS, Board, ONLY_FILES, report_over};
 use crate::walk::walks::{IGNORING, REPOSITORY};
-use lc_level::{FaultWord, Filters};
+use lc_level::FaultWord;
 use lc_tests::trees::{FailingCall, FailingTree};
-use lc_tests::{has_words, tree};
+use lc_tests::{has_words, push_faults, tree};
 use lc_tree::MemTree;
 use lc_walk::{FileLine, Report};
 use std::alloc::{AllocError, Global};
@@ -46,12 +45,9 @@ fn walk_failing<R: Threads + Wait + Sync + Abort>(
     alloc: Global,
     tree: &MemTree,
     call: &FailingCall,
-    (board, threads): (Board, u32),
+    run: (Board, u32),
 ) -> Result<Report, AllocError> {
-    let filters = Filters::none(alloc);
-    let options = walk_options(rt, threads, 3, ONLY_FILES, &filters);
-    let tree = FailingTree { tree, call };
-    report_of(rt, board.walk(rt, alloc, &tree, &options))
+    report_over(rt, alloc, &FailingTree { tree, call }, run, 3, ONLY_FILES)
 }
 
 fn is_same_file(file: &FileLine, other: &FileLine) -> bool {
@@ -222,7 +218,7 @@ fn check_step<R: Threads + Wait + Sync + Abort>(
             " {} directories {}\n",
             sums.bytes, report.directories
         )?;
-        push_faults(&mut found, &report)?;
+        push_faults(&mut found, &report.faults)?;
         assert!(rt; has_words(&found, wanted), "{board:?}, {place}: {found}");
     }
     Ok(())

@@ -1,8 +1,7 @@
 //! Tests that several workers list directories at the same time.
 
 use crate::walk::told::report_text;
-use crate::walk::walked::{Board, NO_LISTS, report_of, walk_options};
-use lc_level::Filters;
+use crate::walk::walked::{Board, NO_LISTS, report_over};
 use lc_tests::{has_words, tree};
 use lc_tree::{Listing, MemFile, MemTree, ReadFault, Tree};
 use std::alloc::{AllocError, Global};
@@ -107,9 +106,7 @@ fn check<R: Threads + Wait + Sync + Abort>(
         begun: AtomicUsize::new(0),
         directories: *directories,
     };
-    let filters = Filters::none(alloc);
-    let options = walk_options(rt, *threads, 100, NO_LISTS, &filters);
-    let report = report_of(rt, board.walk(rt, alloc, &gate, &options))?;
+    let report = report_over(rt, alloc, &gate, (*board, *threads), 100, NO_LISTS)?;
     // If an allocation fails, for a thread or for the reserve, one worker lists after another, which finds the gate shut.
     if *threads > 1 && !report.faults.is_empty() {
         return Err(AllocError);

@@ -1,6 +1,6 @@
 //! Tests of what a walk skips by attributes, rules and kinds of entries, and of the reasons that it reports.
 
-use crate::walk::walked::{Part, check_parts};
+use crate::walk::walked::check_parts;
 use std::test::Fail;
 
 const EXPORTED: &str = "
@@ -11,16 +11,9 @@ const EXPORTED: &str = "
     docs/{ d }
     s/{ docs }";
 
-const ARCHIVE: &str =
-    "- - lf 2 5 0 83, .tmp - lf 1 1 0 2, .y - lf 1 1 0 2, directories 2 entries 7";
-
-const WITH_EXPORTS: &[Part] = &[
-    ("an archive", "--without=export-ignore", ARCHIVE),
-    (
-        "the whole tree",
-        "",
-        "- - lf 3 6 0 85, .tmp - lf 2 2 0 4, .y - lf 1 1 0 2, directories 3 entries 8",
-    ),
+const WITH_EXPORTS: &[&str] = &[
+    "an archive | --without=export-ignore | - - lf 2 5 0 83, .tmp - lf 1 1 0 2, .y - lf 1 1 0 2, directories 2 entries 7",
+    "the whole tree | | - - lf 3 6 0 85, .tmp - lf 2 2 0 4, .y - lf 1 1 0 2, directories 3 entries 8",
 ];
 
 /// A tree with attributes on files and directories: Set, Unset, with a value, and Set by a macro.
@@ -32,11 +25,10 @@ const MARKED: &str = "
     src/{ lib n.y }
     x.y";
 
-const WITHOUT_ATTRIBUTES: &[Part] = &[(
-    "without what is vendored or generated",
-    "--without=vendored --without=generated",
-    "- - lf 2 6 0 76, .v - lf 1 1 0 2, .y - lf 1 1 0 2, directories 2 entries 8",
-)];
+const WITHOUT_ATTRIBUTES: &[&str] = &[
+    "without what is vendored or generated | --without=vendored --without=generated
+     | - - lf 2 6 0 76, .v - lf 1 1 0 2, .y - lf 1 1 0 2, directories 2 entries 8",
+];
 
 #[test]
 fn attributes_leave_out_what_they_are_set_for(rt: HostRuntime) -> Result<(), Fail> {
@@ -62,39 +54,19 @@ const REASONED: &str = "
 
 /// Reports with a line for each skipped entry, in the order of their paths, with the first reason that holds. No entry below a skipped
 /// directory has a line. Both exclude files have their only rule on the last line.
-const WITH_REASONS: &[Part] = &[
-    (
-        "reasons of an archive",
-        "--without=export-ignore --left-out --max-dirs=4 --exclude-from=#;#;#;#;#;#;*.bak;",
-        "- - lf 3 5 1 34
-         .c - lf 2 2 0 4
-         directories 2 entries 15
-         left git .git/
-         left rule .gitignore:1 a.log
-         left filesystem disk@/
-         left attribute export-ignore docs/
-         left other link.c@
-         left rule .git/info/exclude:2 notes.txt
-         left rule */.gitignore:3 src/gen/
-         left rule --exclude-from:7 x.bak
-         left rule .gitignore:1 z.log@/",
-    ),
-    (
-        "reasons of a tree",
-        "--left-out --max-dirs=4 --exclude-from=#;#;#;#;#;#;*.bak;",
-        "- - lf 3 5 1 34
-         .c - lf 2 2 0 4
-         directories 3 entries 16
-         left git .git/
-         left rule .gitignore:1 a.log
-         left filesystem disk@/
-         left rule .gitignore:1 docs/d.log
-         left other link.c@
-         left rule .git/info/exclude:2 notes.txt
-         left rule */.gitignore:3 src/gen/
-         left rule --exclude-from:7 x.bak
-         left rule .gitignore:1 z.log@/",
-    ),
+const WITH_REASONS: &[&str] = &[
+    "reasons of an archive | --without=export-ignore --left-out --max-dirs=4 --exclude-from=#;#;#;#;#;#;*.bak;
+     | - - lf 3 5 1 34, .c - lf 2 2 0 4
+       directories 2 entries 15
+       left git .git/, left rule .gitignore:1 a.log, left filesystem disk@/, left attribute export-ignore docs/
+       left other link.c@, left rule .git/info/exclude:2 notes.txt, left rule */.gitignore:3 src/gen/
+       left rule --exclude-from:7 x.bak, left rule .gitignore:1 z.log@/",
+    "reasons of a tree | --left-out --max-dirs=4 --exclude-from=#;#;#;#;#;#;*.bak;
+     | - - lf 3 5 1 34, .c - lf 2 2 0 4
+       directories 3 entries 16
+       left git .git/, left rule .gitignore:1 a.log, left filesystem disk@/, left rule .gitignore:1 docs/d.log
+       left other link.c@, left rule .git/info/exclude:2 notes.txt, left rule */.gitignore:3 src/gen/
+       left rule --exclude-from:7 x.bak, left rule .gitignore:1 z.log@/",
 ];
 
 #[test]

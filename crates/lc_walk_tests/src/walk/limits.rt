@@ -1,8 +1,9 @@
 //! Tests of the limits of a walk: directories, segments and bytes of a path, bytes of a rule file.
 
 use crate::walk::drawn::draw_tree;
-use crate::walk::walked::{BOARDS, Case, NO_LISTS, check, check_node, report_of, walk_options};
+use crate::walk::walked::{BOARDS, NO_LISTS, check, check_node, report_of, walk_options};
 use lc_level::Filters;
+use lc_tests::tree;
 use lc_tree::{MemTree, Node};
 use lc_walk::{Report, WalkFault, walk_first};
 use std::alloc::{AllocError, Global};
@@ -11,23 +12,11 @@ use std::sync::Wait;
 use std::test::Fail;
 use std::thread::Threads;
 
-const THE_FILE: &str = "- - none 1 1 0 1, directories 1 entries 1";
-
-const FEW: &[Case] = &[
-    ("one directory of one", "a=q", "--max-dirs=1", THE_FILE),
-    ("one of the most", "a=q", "--max-dirs=1048576", THE_FILE),
-    (
-        "two directories of one",
-        "s/",
-        "--max-dirs=1",
-        "too many directories",
-    ),
-    (
-        "two of two",
-        "s/",
-        "--max-dirs=2",
-        "directories 2 entries 1",
-    ),
+const FEW: &[&str] = &[
+    "one directory of one | a=q | --max-dirs=1 | - - none 1 1 0 1, directories 1 entries 1",
+    "one of the most | a=q | --max-dirs=1048576 | - - none 1 1 0 1, directories 1 entries 1",
+    "two directories of one | s/ | --max-dirs=1 | too many directories",
+    "two of two | s/ | --max-dirs=2 | directories 2 entries 1",
 ];
 
 #[test]
@@ -38,8 +27,6 @@ fn few_directories(rt: HostRuntime) -> Result<(), Fail> {
 
 /// The greatest number of directories that `lc count` visits by default.
 const MOST: u32 = 65_536;
-
-const OF_THE_MOST: &str = "--max-dirs=65536";
 
 const SEED: u64 = 12_345;
 
@@ -57,8 +44,7 @@ fn as_many_directories_as_are_taken(rt: HostRuntime) -> Result<(), Fail> {
     let alloc = rt.alloc();
     check_most(&rt, alloc)?;
     let top = draw_tree(alloc, SEED, MOST + 1)?.top;
-    let one_more = ("one more", OF_THE_MOST, "too many directories");
-    check_node(&rt, alloc, &top, &one_more)?;
+    check_node(&rt, alloc, &top, "--max-dirs=65536 | too many directories")?;
     Ok(())
 }
 
@@ -143,9 +129,11 @@ fn sketch_of(
 
 #[test]
 fn deep_directories_and_long_paths(rt: HostRuntime) -> Result<(), Fail> {
+    let alloc = rt.alloc();
     for nest in NESTS {
-        let sketch = sketch_of(rt.alloc(), nest)?;
-        check(&rt, rt.alloc(), &[("a nest", &sketch, OF_THE_MOST, nest.4)])?;
+        let top = tree(alloc, &sketch_of(alloc, nest)?)?;
+        let request = format!(in alloc; "--max-dirs=65536 | {}", nest.4)?;
+        check_node(&rt, alloc, &top, &request)?;
     }
     Ok(())
 }
@@ -163,7 +151,7 @@ fn a_rule_file_of_a_byte_too_many(rt: HostRuntime) -> Result<(), Fail> {
     let file = Node::File(vec![in alloc; b'\n'; 1_048_577]?);
     let directory = with_entry(alloc, b".gitignore", file)?;
     let top = with_entry(alloc, b"d", directory)?;
-    let wanted = "directories 1 entries 1, fault long d/.gitignore";
-    check_node(&rt, alloc, &top, &("a long rule file", OF_THE_MOST, wanted))?;
+    let request = "| directories 1 entries 1, fault long d/.gitignore";
+    check_node(&rt, alloc, &top, request)?;
     Ok(())
 }

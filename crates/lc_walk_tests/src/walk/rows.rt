@@ -38,9 +38,9 @@ fn words_of(alloc: Global, row: &Ended<Row>) -> Result<String, AllocError> {
 struct Case<'a> {
     tree: &'a str,
     is_broken: bool,
-    rows: &'a [&'a str],
-    words: &'a [usize],
-    locked: &'a [usize],
+    rows: &'a str,
+    words: &'a str,
+    locked: &'a str,
     report: &'a str,
 }
 
@@ -151,32 +151,27 @@ const CASES: &[Case] = &[
     Case {
         tree: "closed/! deep/{ LONG } file listed/{ a b }",
         is_broken: false,
-        rows: &[
-            "listed 1 3",
-            "Directory Read",
-            "broken TooDeep",
-            "listed 2 0",
-        ],
-        words: &[0, 3, 2, 1],
-        locked: &[0, 1, 2, 3],
+        rows: "listed 1 3, Directory Read, broken TooDeep, listed 2 0",
+        words: "0 3 2 1",
+        locked: "0 1 2 3",
         report: "path too deep",
     },
     // a row for which an allocation failed after a post
     Case {
         tree: "d/{ e/ }",
         is_broken: true,
-        rows: &[GIVEN_UP, "listed 0 1", "listed 0 0"],
-        words: &[0, 1, 2],
-        locked: &[0, 1, 2],
+        rows: "broken Memory, listed 0 1, listed 0 0",
+        words: "0 1 2",
+        locked: "0 1 2",
         report: "out of memory",
     },
     // two directories below the top
     Case {
         tree: "a d/{ b } e/{ c l@ }",
         is_broken: false,
-        rows: &["listed 1 2", "listed 1 0", "listed 1 0"],
-        words: &[0, 2, 1],
-        locked: &[0, 1, 2],
+        rows: "listed 1 2, listed 1 0, listed 1 0",
+        words: "0 2 1",
+        locked: "0 1 2",
         report: "3 6 1",
     },
 ];
@@ -202,17 +197,19 @@ fn some_refused(
     rt: &impl Abort,
     alloc: Global,
     rows: &[Ended<Row>],
-    wanted: &[&str],
-    claims: &[usize],
+    wanted: &str,
+    claims: &str,
 ) -> Result<bool, AllocError> {
     let mut refused = false;
-    for number in claims {
-        if let Some(row) = rows.get(*number)
-            && let Some(wanted) = wanted.get(*number)
+    for number in claims.split(' ') {
+        let number = number.parse::<usize>().unwrap_or(0);
+        if let Some(row) = rows.get(number)
+            && let Some(wanted) = wanted.split(',').nth(number)
         {
             let found = words_of(alloc, row)?;
-            refused = refused || found.as_str() == GIVEN_UP && *wanted != GIVEN_UP;
-            let wanted = if refused { GIVEN_UP } else { *wanted };
+            let wanted = wanted.trim();
+            refused = refused || found.as_str() == GIVEN_UP && wanted != GIVEN_UP;
+            let wanted = if refused { GIVEN_UP } else { wanted };
             assert!(rt; found.as_str() == wanted, "{found}, not {wanted}");
         }
     }
@@ -265,7 +262,7 @@ fn check<R: Threads + Wait + Sync + Abort>(
         Board::Locked => case.locked,
     };
     let refused = some_refused(rt, alloc, &skipped.0.rows, case.rows, claims)?;
-    let (many, all) = (skipped.0.rows.len(), case.rows.len());
+    let (many, all) = (skipped.0.rows.len(), case.rows.split(',').count());
     assert!(rt; many == all || refused && many < all, "{many}");
     check_report(rt, alloc, case, skipped, refused)
 }

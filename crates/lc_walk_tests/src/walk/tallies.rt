@@ -3,7 +3,7 @@
 use crate::walk::told::push_row;
 use lc_census::Count;
 use lc_tests::{eol_of_word, has_words, text_of_word};
-use lc_walk::{Tally, TallyRow};
+use lc_walk::Tally;
 use std::alloc::{AllocError, Global};
 use std::process::Abort;
 use std::test::Fail;
@@ -28,81 +28,49 @@ fn add_row(rt: &impl Abort, tally: &mut Tally, row: &str) -> Result<(), AllocErr
 }
 
 /// Makes a tally of files, each of which is written as the row that it would have alone. Adds the files from the last to the first.
-fn tally_of(rt: &impl Abort, alloc: Global, rows: &[&str]) -> Result<Tally, AllocError> {
+fn tally_of(rt: &impl Abort, alloc: Global, rows: &str) -> Result<Tally, AllocError> {
     let mut tally = Tally::new(alloc);
-    for row in rows.iter().rev() {
-        add_row(rt, &mut tally, row)?;
+    for row in rows.rsplit(',') {
+        if !row.is_empty() {
+            add_row(rt, &mut tally, row)?;
+        }
     }
     Ok(tally)
 }
 
 /// The files of a tally, the files of a second tally that is merged into the first, the expected rows, and the expected totals.
-type Case = (
-    &'static [&'static str],
-    &'static [&'static str],
-    &'static [&'static str],
-    &'static str,
-);
+type Case = (&'static str, &'static str, &'static str, &'static str);
 
 /// Rows in the order of their extensions: no extension first, then extensions by their bytes.
-const EXTENSIONS: &[&str] = &[
-    "- - nul 1 1 0 1",
-    ".b - nul 1 1 0 1",
-    ".c unset mixed 1 1 0 1",
-    ".ca set none 1 1 0 1",
-    ".\u{e9} set none 1 1 0 1",
-];
+const EXTENSIONS: &str =
+    "- - nul 1 1 0 1, .b - nul 1 1 0 1, .c unset mixed 1 1 0 1, .ca set none 1 1 0 1, .\u{e9} set none 1 1 0 1";
 
-const TEXT_STATES: &[&str] = &[
-    ".c set nul 1 1 0 1",
-    ".c unset mixed 1 1 0 1",
-    ".c auto cr 1 1 0 1",
-    ".c other lf 1 1 0 1",
-    ".c - none 1 1 0 1",
-];
+const TEXT_STATES: &str = "
+    .c set nul 1 1 0 1, .c unset mixed 1 1 0 1, .c auto cr 1 1 0 1, .c other lf 1 1 0 1, .c - none 1 1 0 1";
 
-const LINE_ENDS: &[&str] = &[
-    "- auto none 1 1 0 1",
-    "- auto lf 1 1 0 1",
-    "- auto crlf 1 1 0 1",
-    "- auto cr 1 1 0 1",
-    "- auto mixed 1 1 0 1",
-    "- auto nul 1 1 0 1",
-];
+const LINE_ENDS: &str = "
+    - auto none 1 1 0 1, - auto lf 1 1 0 1, - auto crlf 1 1 0 1, - auto cr 1 1 0 1, - auto mixed 1 1 0 1, - auto nul 1 1 0 1";
 
 const B: &str = ".b set lf 1 1 0 2";
 
 const C: &str = ".c set lf 1 1 0 2";
 
+const B_AND_C: &str = ".b set lf 1 1 0 2, .c set lf 1 1 0 2";
+
 const CASES: &[Case] = &[
-    (EXTENSIONS, &[], EXTENSIONS, "5 5 0 5"),
-    (TEXT_STATES, &[], TEXT_STATES, "5 5 0 5"),
-    (LINE_ENDS, &[], LINE_ENDS, "6 6 0 6"),
+    (EXTENSIONS, "", EXTENSIONS, "5 5 0 5"),
+    (TEXT_STATES, "", TEXT_STATES, "5 5 0 5"),
+    (LINE_ENDS, "", LINE_ENDS, "6 6 0 6"),
     // files of one key are one row
     (
-        &[C, C],
-        &[".c set lf 1 2 1 5"],
-        &[".c set lf 3 4 1 9"],
+        ".c set lf 1 1 0 2, .c set lf 1 1 0 2",
+        ".c set lf 1 2 1 5",
+        ".c set lf 3 4 1 9",
         "3 4 1 9",
     ),
-    (&[C], &[B], &[B, C], "2 2 0 4"),
-    (&[], &[], &[], "0 0 0 0"),
+    (C, B, B_AND_C, "2 2 0 4"),
+    ("", "", "", "0 0 0 0"),
 ];
-
-fn check_rows(
-    rt: &impl Abort,
-    alloc: Global,
-    rows: &[TallyRow],
-    wanted: &[&str],
-) -> Result<(), AllocError> {
-    assert!(rt; rows.len() == wanted.len(), "{rows:?}");
-    for (row, wanted) in rows.iter().zip(wanted) {
-        let mut text = String::new(alloc);
-        push_row(&mut text, row)?;
-        assert!(rt; has_words(&text, wanted), "{text}, not {wanted}");
-    }
-    Ok(())
-}
 
 fn check(
     rt: &impl Abort,
@@ -116,12 +84,17 @@ fn check(
         tally = tally.merge(other)?;
     }
     let sums = tally.totals();
+    let mut found = String::new(alloc);
+    for row in &tally.rows()? {
+        push_row(&mut found, row)?;
+    }
+    assert!(rt; has_words(&found, rows), "{found}, not {rows}");
     let found = format!(in alloc;
         "{} {} {} {}",
         sums.files, sums.lines, sums.blank, sums.bytes
     )?;
     assert!(rt; found.as_str() == *totals, "{found}, not {totals}");
-    check_rows(rt, alloc, &tally.rows()?, rows)
+    Ok(())
 }
 
 #[test]

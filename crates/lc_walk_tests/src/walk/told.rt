@@ -1,6 +1,6 @@
 //! Reports as text, in lines such as those of `lc count`.
 
-use lc_tests::{push_kind, push_name, push_reason};
+use lc_tests::{push_faults, push_name, push_skipped};
 use lc_walk::{FileLine, Report, TallyRow};
 use std::alloc::{AllocError, Global};
 
@@ -31,29 +31,6 @@ fn push_file(text: &mut String, file: &FileLine) -> Result<(), AllocError> {
     text.push_str("\n")
 }
 
-fn push_skipped(text: &mut String, report: &Report) -> Result<(), AllocError> {
-    for entry in &report.skipped {
-        text.push_str("left ")?;
-        push_reason(text, &entry.reason)?;
-        text.push_str(" ")?;
-        push_name(text, &entry.path)?;
-        push_kind(text, entry.kind)?;
-        text.push_str("\n")?;
-    }
-    Ok(())
-}
-
-/// Appends a line for each error of a report.
-pub(super) fn push_faults(text: &mut String, report: &Report) -> Result<(), AllocError> {
-    for fault in &report.faults {
-        let word = fault.word.as_str();
-        write!(text, "fault {word} ")?;
-        push_name(text, &fault.path)?;
-        text.push_str("\n")?;
-    }
-    Ok(())
-}
-
 /// Returns the report as text: its rows, its numbers of directories and entries, its lists and its errors. If the total of files is not the
 /// sum over the rows, the total comes after the rows.
 pub(super) fn report_text(alloc: Global, report: &Report) -> Result<String, AllocError> {
@@ -74,7 +51,7 @@ pub(super) fn report_text(alloc: Global, report: &Report) -> Result<String, Allo
     for file in &report.files {
         push_file(&mut text, file)?;
     }
-    push_skipped(&mut text, report)?;
-    push_faults(&mut text, report)?;
+    push_skipped(&mut text, &report.skipped)?;
+    push_faults(&mut text, &report.faults)?;
     Ok(text)
 }

@@ -5,7 +5,7 @@ use crate::walk::told::report_text;
 use lc_board::Locked;
 use lc_level::{Filters, Job};
 use lc_tests::trees::{FailingCall, FailingTree};
-use lc_tests::{Asked, has_words, tree};
+use lc_tests::{Asked, cut, has_words, tree};
 use lc_tree::{MemTree, Node, Tree};
 use lc_walk::{Options, Report, ReportLists, Row, WalkFault, walk, walk_on};
 use std::alloc::{AllocError, Global};
@@ -24,13 +24,6 @@ pub(super) const ONLY_FILES: ReportLists = ReportLists {
     files: true,
     left_out: false,
 };
-
-/// The name of a case, the sketch of a tree, arguments as on the command line, and the expected report, or why the walk makes none.
-pub(super) type Case<'a> = (&'a str, &'a str, &'a str, &'a str);
-
-/// The name of a case, arguments as on the command line, and the expected report. The report may end with the number of calls on the tree:
-/// a listing is one call; a file is opened, read, and read to its end.
-pub(super) type Part<'a> = (&'a str, &'a str, &'a str);
 
 /// Returns the options of a walk with these numbers of threads and directories. The test fails if a number is outside the limits.
 pub(super) fn walk_options<'o>(
@@ -101,6 +94,20 @@ pub(super) fn report_of(
     }
 }
 
+/// Walks a tree over a board of this type with this many workers. Nothing but a failed allocation can stop the walk.
+pub(super) fn report_over<T: Tree, R: Threads + Wait + Sync + Abort>(
+    rt: &R,
+    alloc: Global,
+    tree: &T,
+    (board, threads): (Board, u32),
+    max_dirs: u32,
+    lists: ReportLists,
+) -> Result<Report, AllocError> {
+    let filters = Filters::none(alloc);
+    let options = walk_options(rt, threads, max_dirs, lists, &filters);
+    report_of(rt, board.walk(rt, alloc, tree, &options))
+}
+
 /// Returns as text what a walk found, or why it made no report.
 fn answer_text(alloc: Global, answer: &Result<Report, WalkFault>) -> Result<String, AllocError> {
     match answer {
@@ -123,7 +130,7 @@ fn without_calls(wanted: &str) -> (&str, Option<u64>) {
 pub(super) fn check_answer(
     rt: &impl Abort,
     alloc: Global,
-    (name, wanted): (&str, &str),
+    wanted: &str,
     answer: &Result<Report, WalkFault>,
     calls: u64,
 ) -> Result<(), AllocError> {
@@ -135,7 +142,7 @@ pub(super) fn check_answer(
     }
     assert!(rt;
         has_words(&found, wanted) && wanted_calls == calls,
-        "{name}: {found} calls {calls}"
+        "{found} calls {calls}, not {wanted}"
     );
     Ok(())
 }
@@ -146,7 +153,7 @@ fn check_run<R: Threads + Wait + Sync + Abort>(
     alloc: Global,
     top: &Node,
     options: &Options<'_>,
-    wanted: (&str, &str),
+    wanted: &str,
     board: Board,
 ) -> Result<(), AllocError>
     requires { AreWithinLimits options.now }
@@ -161,13 +168,16 @@ fn check_run<R: Threads + Wait + Sync + Abort>(
     check_answer(rt, alloc, wanted, &answer, call.begun())
 }
 
-/// Checks that the walk of this tree finds what is expected, over each board and with each number of workers.
+/// Checks that the walk of this tree finds what is expected, over each board and with each number of workers. A request has arguments as
+/// on the command line, and the expected report, or why the walk makes none, separated by `|`. The report may end with the number of calls
+/// on the tree: a listing is one call; a file is opened, read, and read to its end.
 pub(super) fn check_node<R: Threads + Wait + Sync + Abort>(
     rt: &R,
     alloc: Global,
     top: &Node,
-    (name, words, wanted): &Part,
+    request: &str,
 ) -> Result<(), AllocError> {
+    let (words, wanted) = cut(request);
     let asked = Asked::read(alloc, words)?;
     assert!(rt; asked.is_known, "{words}");
     let filters = asked.filters(alloc)?;
@@ -177,33 +187,34 @@ pub(super) fn check_node<R: Threads + Wait + Sync + Abort>(
     };
     for (board, threads) in RUNS {
         let options = walk_options(rt, *threads, asked.max_dirs, lists, &filters);
-        check_run(rt, alloc, top, &options, (name, wanted), *board)?;
+        check_run(rt, alloc, top, &options, wanted, *board)?;
     }
     Ok(())
 }
 
-/// Checks several walks of one tree, each with its arguments.
+/// Checks several walks of one tree. Each case has a name and a request, separated by `|`.
 pub(super) fn check_parts<R: Threads + Wait + Sync + Abort>(
     rt: &R,
     alloc: Global,
     sketch: &str,
-    parts: &[Part],
+    cases: &[&str],
 ) -> Result<(), AllocError> {
     let top = tree(alloc, sketch)?;
-    for part in parts {
-        check_node(rt, alloc, &top, part)?;
+    for case in cases {
+        check_node(rt, alloc, &top, cut(case).1)?;
     }
     Ok(())
 }
 
-/// Checks one walk of each case's tree.
+/// Checks one walk of each case's tree. A case has a name, the sketch of a tree, and a request, separated by `|`.
 pub(super) fn check<R: Threads + Wait + Sync + Abort>(
     rt: &R,
     alloc: Global,
-    cases: &[Case],
+    cases: &[&str],
 ) -> Result<(), AllocError> {
-    for (name, sketch, words, wanted) in cases {
-        check_parts(rt, alloc, sketch, &[(*name, *words, *wanted)])?;
+    for case in cases {
+        let (sketch, request) = cut(cut(case).1);
+        check_node(rt, alloc, &tree(alloc, sketch)?, request)?;
     }
     Ok(())
 }
