@@ -2,18 +2,10 @@
 //! check what no contract states: a run succeeds if no allocation fails.
 
 mod asking;
-mod attributes;
-mod bars;
-mod cuts;
-mod directories;
 mod failing_calls;
-mod failing_trees;
-mod json;
-mod markdown;
-mod records;
+mod formats;
+mod paths;
 mod rows;
 mod runs;
-mod screens;
 mod shares;
-mod skipped;
 mod tables;

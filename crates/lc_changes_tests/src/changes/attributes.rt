@@ -3,198 +3,105 @@
 ghost use Rattle.std.specs.Prelude.{◌≡◌, true, IfOk};
 
 use crate::changes::kept::kept;
-use crate::changes::reports::{BY_EXTENSION, NONE, TSV, report_of, text_of};
-use lc_census::{Count, Eol};
+use crate::changes::reports::{FILES, report_of};
 use lc_changes::{ChangeOptions, ShownChanges};
-use lc_level::{AttributeState, FileAttributes};
+use lc_formats::text;
 use lc_rules::State;
-use lc_sheet::{AttributeColumn, Columns, Format, Lines, Section};
-use lc_text::push_name;
-use lc_walk::{FileLine, Report};
+use lc_sheet::{AttributeColumn, Columns, Format};
+use lc_tests::{FileOfStates, lines_of_states};
+use lc_walk::Report;
 use std::alloc::{AllocError, Global};
 use std::process::Abort;
-use std::sync::Arc;
 use std::test::Fail;
-
-/// A file of one line: its path, and its states of the attributes `team` and `kind`.
-type Asked = (&'static [u8], &'static [State<'static>]);
 
 const CORE: State<'static> = State::Value(b"core");
 
-/// The state of `team` changes for `a.c`, and that of `kind` for `b.c`.
-const OLD: &[Asked] = &[
-    (b"a.c", &[State::Unspecified, State::Set]),
-    (b"b.c", &[CORE, State::Set]),
-    (b"c.rs", &[CORE, State::Unset]),
-    (b"d.c", &[State::Unset, State::Unset]),
+/// Files with their states of the attributes `team` and `kind`.
+const OLD: &[FileOfStates<'static>] = &[
+    (b"a.c", &[State::Unspecified, State::Set], 1),
+    (b"b.c", &[CORE, State::Set], 1),
+    (b"c.rs", &[CORE, State::Unset], 1),
+    (b"d.c", &[State::Unset, State::Unset], 1),
 ];
 
-const NEW: &[Asked] = &[
-    (b"a.c", &[CORE, State::Set]),
-    (b"b.c", &[CORE, State::Unset]),
-    (b"c.rs", &[CORE, State::Unset]),
+/// Like `OLD`, but without `d.c`, and with other states of `team` for `a.c` and of `kind` for `b.c`.
+const NEW: &[FileOfStates<'static>] = &[
+    (b"a.c", &[CORE, State::Set], 1),
+    (b"b.c", &[CORE, State::Unset], 1),
+    (b"c.rs", &[CORE, State::Unset], 1),
 ];
 
-fn owned(alloc: Global, state: State<'static>) -> Result<AttributeState, AllocError> {
-    Ok(match state {
-        State::Set => AttributeState::Set,
-        State::Unset => AttributeState::Unset,
-        State::Value(value) => AttributeState::Value(value.to_vec(alloc)?),
-        State::Unspecified => AttributeState::Unspecified,
-    })
-}
-
-fn file_line(alloc: Global, (path, states): &Asked) -> Result<FileLine, AllocError> {
-    let mut asked = Vec::new(alloc);
-    for state in *states {
-        asked.push(owned(alloc, *state)?)?;
-    }
-    Ok(FileLine {
-        path: path.to_vec(alloc)?,
-        attributes: Arc::new(alloc, FileAttributes { text: NONE, asked })?,
-        count: Count {
-            lines: 1,
-            blank: 0,
-            bytes: 2,
-            eol: Eol::Lf,
-        },
-    })
-}
-
-fn report(alloc: Global, files: &[Asked]) -> Result<Report, AllocError>
+fn report(alloc: Global, files: &[FileOfStates<'_>]) -> Result<Report, AllocError>
     ensures { IfOk result (λ report. report.lists.files ≡ true) }
 {
-    let mut lines = Vec::new(alloc);
-    for file in files {
-        lines.push(file_line(alloc, file)?)?;
-    }
-    report_of(alloc, lines)
+    report_of(alloc, lines_of_states(alloc, files)?)
 }
 
-/// Adds the names of a section's columns, in one line.
-fn push_names<L: Lines>(text: &mut Vec<u8>, section: &Section<'_, L>) -> Result<(), AllocError> {
-    for column in section.columns() {
-        push_name(text, column.name(section.attributes()))?;
-        text.extend_from_slice(b" ")?;
-    }
-    text.extend_from_slice(b"\n")
-}
-
-/// Returns the text of the comparison of `OLD` and `NEW`, and the names of the columns of its files.
-fn compared(alloc: Global, options: &ChangeOptions) -> Result<Vec<u8>, AllocError> {
+/// Returns the text of the comparison of `OLD` and `NEW` in a format, with the files that differ, and with rows by the first attributes.
+fn compared(alloc: Global, format: Format, attributes: u8) -> Result<Vec<u8>, AllocError> {
     let old = report(alloc, OLD)?;
     let new = report(alloc, NEW)?;
     let names = [
         AttributeColumn::of(alloc, "attr:team")?,
         AttributeColumn::of(alloc, "attr:kind")?,
     ];
-    let changes = ShownChanges::of(alloc, &old, &new, options, &names)?;
-    let mut text = text_of(alloc, &changes)?;
-    if let Some(files) = changes.comparison().files {
-        push_names(&mut text, &files)?;
-    }
-    Ok(text)
-}
-
-/// Options with which files are listed, and rows are by the first attributes alone.
-fn by_attributes(format: Format, attributes: u8) -> ChangeOptions {
-    ChangeOptions {
+    let options = ChangeOptions {
         format,
         by: Columns {
             attributes,
-            ext: false,
-            ..BY_EXTENSION
+            ..Columns::NONE
         },
-        files: true,
-        ..TSV
-    }
+        ..FILES
+    };
+    let changes = ShownChanges::of(alloc, &old, &new, &options, &names)?;
+    text(alloc, format, &changes.comparison())
 }
 
-struct Case {
-    format: Format,
-    attributes: u8,
-    text: &'static str,
-}
-
-/// A file of which only an attribute changed is listed, with the other files, if rows are by this attribute.
-const CASES: &[Case] = &[
-    Case {
-        format: Format::Csv,
-        attributes: 0,
-        text: "4 3 4 3 0 0 8 6 
-
-
-4 4 0 8 3 3 0 6 
-
-d.c removed .c - - lf - 1 - 0 - 2 - 
-
-path change ext old_text new_text old_eol new_eol old_lines new_lines old_blank new_blank old_bytes new_bytes 
+/// Formats, numbers of attributes, and texts. A file of which only an attribute changed is listed if rows are by this attribute.
+const CASES: &[(Format, u8, &[u8])] = &[
+    (
+        Format::Csv,
+        0,
+        b"path,change,ext,old_text,new_text,old_eol,new_eol,old_lines,new_lines,old_blank,new_blank,old_bytes,new_bytes
+d.c,removed,.c,,,lf,,1,,0,,9,
 ",
-    },
-    Case {
-        format: Format::Tsv,
-        attributes: 1,
-        text: "- * * * 1 0 1 0 0 0 2 0 
-unset * * * 1 0 1 0 0 0 2 0 
-core * * * 2 3 2 3 0 0 4 6 
-
-
-total * * * 4 3 4 3 0 0 8 6 
-
-changed - - lf lf 1 1 0 0 2 2 a.c 
-removed - - lf - 1 - 0 - 2 - d.c 
-
-change old_text new_text old_eol new_eol old_lines new_lines old_blank new_blank old_bytes new_bytes path 
+    ),
+    (
+        Format::Csv,
+        2,
+        b"path,change,ext,old_attr:team,new_attr:team,old_attr:kind,new_attr:kind,\
+old_text,new_text,old_eol,new_eol,old_lines,new_lines,old_blank,new_blank,old_bytes,new_bytes
+a.c,changed,.c,,core,set,set,,,lf,lf,1,1,0,0,9,9
+b.c,changed,.c,core,core,set,unset,,,lf,lf,1,1,0,0,9,9
+d.c,removed,.c,unset,,unset,,,,lf,,1,,0,,9,
 ",
-    },
-    Case {
-        format: Format::Json,
-        attributes: 1,
-        text: "- 1 1 0 2 0 0 0 0 
-unset 1 1 0 2 0 0 0 0 
-core 2 2 0 4 3 3 0 6 
+    ),
+    (
+        Format::Table,
+        2,
+        b"\
+change   lines      bytes      file
+changed      1   0      9   0  a.c
+changed      1   0      9   0  b.c
+removed      -  -1      -  -9  d.c
 
-
-4 4 0 8 3 3 0 6 
-
-a.c .c changed - - lf 1 0 2 core - lf 1 0 2 
-d.c .c removed unset - lf 1 0 2 - - - - - - 
-
-path ext change old_attr:team old_text old_eol old_lines old_blank old_bytes \
-new_attr:team new_text new_eol new_lines new_blank new_bytes 
+team   kind   files      lines               blank     bytes
+----------------------------------------------------------------
+-      set        0  -1      0  -1  -100.0%      0  0      0  -9
+unset  unset      0  -1      0  -1  -100.0%      0  0      0  -9
+core   unset      2  +1      2  +1  +100.0%      0  0     18  +9
+----------------------------------------------------------------
+total             3  -1      3  -1   -25.0%      0  0     27  -9
 ",
-    },
-    Case {
-        format: Format::Csv,
-        attributes: 2,
-        text: "- set 1 0 1 0 0 0 2 0 
-unset unset 1 0 1 0 0 0 2 0 
-core unset 1 2 1 2 0 0 2 4 
-
-
-4 4 0 8 3 3 0 6 
-
-a.c changed .c - core set set - - lf lf 1 1 0 0 2 2 
-b.c changed .c core core set unset - - lf lf 1 1 0 0 2 2 
-d.c removed .c unset - unset - - - lf - 1 - 0 - 2 - 
-
-path change ext old_attr:team new_attr:team old_attr:kind new_attr:kind \
-old_text new_text old_eol new_eol old_lines new_lines old_blank new_blank old_bytes new_bytes 
-",
-    },
+    ),
 ];
-
-fn check(rt: &impl Abort, alloc: Global, case: &Case) -> Result<(), AllocError> {
-    let text = compared(alloc, &by_attributes(case.format, case.attributes))?;
-    let found = str::from_utf8(&text).unwrap_or("?");
-    assert!(rt; found == case.text, "{found}");
-    Ok(())
-}
 
 #[test]
 fn attributes_that_changed(rt: HostRuntime) -> Result<(), Fail> {
-    for case in CASES {
-        check(&rt, rt.alloc(), case)?;
+    for (format, attributes, wanted) in CASES {
+        let text = compared(rt.alloc(), *format, *attributes)?;
+        let found = str::from_utf8(&text).unwrap_or("?");
+        assert!(rt; text.as_slice() == *wanted, "{found}");
     }
     Ok(())
 }

@@ -1,25 +1,22 @@
-//! Reports of two versions of a tree, and the text of their comparison, which shows the values of each line in the order of the columns.
+//! Reports of two versions of a tree, and the text of their comparison.
 
 ghost use Rattle.std.specs.Prelude.{◌≡◌, true, IfOk};
 
-use lc_census::{Count, Eol};
-use lc_changes::{ChangeOptions, ChangeSheet, ShownChanges};
-use lc_level::FileAttributes;
+use lc_census::Eol;
+use lc_changes::{ChangeOptions, ShownChanges};
+use lc_formats::text;
 use lc_rows::name_of;
 use lc_rules::TextState;
-use lc_sheet::{Columns, Format, Lines, Section, Value, flag_word};
-use lc_text::push_name;
+use lc_sheet::{Columns, Format};
+use lc_tests::{File, file_lines};
 use lc_walk::{FileLine, Findings, Report, ReportLists, Tally, extension};
 use std::alloc::{AllocError, Global};
-use std::io::Write;
 use std::process::Abort;
+use std::test::Fail;
 
 pub(super) const NONE: TextState = TextState::Unspecified;
 
-/// A file: a path, a state of the attribute `text`, a class of line ends, and the numbers of lines, blank lines and bytes.
-pub(super) type File = (&'static [u8], TextState, Eol, [u64; 3]);
-
-pub(super) const OLD: &[File] = &[
+pub(super) const OLD: &[File<'static>] = &[
     (b"Makefile", NONE, Eol::Lf, [4, 1, 9]),
     (b"a.c", NONE, Eol::Lf, [10, 2, 100]),
     (b"b.c", NONE, Eol::Lf, [5, 0, 50]),
@@ -27,7 +24,7 @@ pub(super) const OLD: &[File] = &[
     (b"src/x.py", TextState::Set, Eol::CrLf, [8, 1, 80]),
 ];
 
-pub(super) const NEW: &[File] = &[
+pub(super) const NEW: &[File<'static>] = &[
     (b"Makefile", NONE, Eol::Lf, [4, 1, 9]),
     (b"a.c", NONE, Eol::Lf, [14, 3, 130]),
     (b"b.c", NONE, Eol::Lf, [5, 0, 50]),
@@ -35,33 +32,25 @@ pub(super) const NEW: &[File] = &[
     (b"src/x.py", TextState::Set, Eol::Lf, [8, 1, 72]),
 ];
 
-pub(super) const BY_EXTENSION: Columns = Columns {
-    ext: true,
-    ..Columns::NONE
-};
-
-pub(super) const TSV: ChangeOptions = ChangeOptions {
-    format: Format::Tsv,
-    by: BY_EXTENSION,
+/// Options of a human-readable comparison by extension that lists no files.
+pub(super) const TABLE: ChangeOptions = ChangeOptions {
+    format: Format::Table,
+    by: Columns {
+        ext: true,
+        ..Columns::NONE
+    },
     sort: None,
     top: None,
     files: false,
     all: false,
 };
 
-fn file_line(alloc: Global, file: &File) -> Result<FileLine, AllocError> {
-    let (path, text, eol, [lines, blank, bytes]) = *file;
-    Ok(FileLine {
-        path: path.to_vec(alloc)?,
-        attributes: FileAttributes::of_text(alloc, text)?,
-        count: Count {
-            lines,
-            blank,
-            bytes,
-            eol,
-        },
-    })
-}
+/// Options of records of the files that differ.
+pub(super) const FILES: ChangeOptions = ChangeOptions {
+    format: Format::Csv,
+    files: true,
+    ..TABLE
+};
 
 fn tally_of(alloc: Global, files: &[FileLine]) -> Result<Tally, AllocError> {
     let mut tally = Tally::new(alloc);
@@ -74,22 +63,11 @@ fn tally_of(alloc: Global, files: &[FileLine]) -> Result<Tally, AllocError> {
     Ok(tally)
 }
 
-/// Makes a report of some files.
-pub(super) fn report(alloc: Global, files: &[File]) -> Result<Report, AllocError>
-    ensures { IfOk result (λ report. report.lists.files ≡ true) }
-{
-    let mut lines = Vec::new(alloc);
-    for file in files {
-        lines.push(file_line(alloc, file)?)?;
-    }
-    report_of(alloc, lines)
-}
-
 /// Makes a report that lists these files.
-pub(super) fn report_of(alloc: Global, lines: Vec<FileLine>) -> Result<Report, AllocError>
+pub(super) fn report_of(alloc: Global, files: Vec<FileLine>) -> Result<Report, AllocError>
     ensures { IfOk result (λ report. report.lists.files ≡ true) }
 {
-    let tally = tally_of(alloc, &lines)?;
+    let tally = tally_of(alloc, &files)?;
     let lists = ReportLists {
         files: true,
         left_out: false,
@@ -97,84 +75,55 @@ pub(super) fn report_of(alloc: Global, lines: Vec<FileLine>) -> Result<Report, A
     let findings = Findings {
         directories: 2,
         entries: 0,
-        files: lines,
+        files,
         faults: Vec::new(alloc),
         skipped: Vec::new(alloc),
     };
     Ok(Report::new(tally, lists, findings))
 }
 
-fn push_value(text: &mut Vec<u8>, value: Value<'_>) -> Result<(), AllocError> {
-    match value {
-        Value::Missing => text.extend_from_slice(b"-"),
-        Value::Summed => text.extend_from_slice(b"*"),
-        Value::Blank => text.extend_from_slice(b"!"),
-        Value::Word(word) => text.extend_from_slice(word.as_bytes()),
-        Value::Flag(is_set) => text.extend_from_slice(flag_word(is_set).as_bytes()),
-        Value::Name(name) => push_name(text, name),
-        Value::Path(path) => text.extend_from_slice(path),
-        Value::Number(number) => write!(text, "{number}").map_err(|_| AllocError),
-        Value::Share { part, whole } | Value::Bar { part, whole } => {
-            write!(text, "{part}/{whole}").map_err(|_| AllocError)
-        }
-        Value::Difference { old, new } => write!(text, "{old}>{new}").map_err(|_| AllocError),
-        Value::Growth { old, new } => write!(text, "{old}%{new}").map_err(|_| AllocError),
-    }
-}
-
-fn push_section<L: Lines>(text: &mut Vec<u8>, section: &Section<'_, L>) -> Result<(), AllocError> {
-    let (form, columns, lines) = section.parts();
-    for line in lines {
-        for column in columns {
-            push_value(text, L::value(line, form, *column))?;
-            text.extend_from_slice(b" ")?;
-        }
-        text.extend_from_slice(b"\n")?;
-    }
-    text.extend_from_slice(b"\n")
-}
-
-fn push_sheet(text: &mut Vec<u8>, sheet: &ChangeSheet<'_>) -> Result<(), AllocError> {
-    push_section(text, &sheet.rows)?;
-    push_section(text, &sheet.others)?;
-    push_section(text, &sheet.totals)?;
-    if let Some(files) = &sheet.files {
-        push_section(text, files)?;
-    }
-    Ok(())
-}
-
-/// Returns the text of a comparison.
-pub(super) fn text_of(alloc: Global, changes: &ShownChanges<'_>) -> Result<Vec<u8>, AllocError> {
-    let mut text = Vec::new(alloc);
-    push_sheet(&mut text, &changes.comparison())?;
-    Ok(text)
+/// Makes a report of some files.
+pub(super) fn report(alloc: Global, files: &[File<'_>]) -> Result<Report, AllocError>
+    ensures { IfOk result (λ report. report.lists.files ≡ true) }
+{
+    report_of(alloc, file_lines(alloc, files)?)
 }
 
 /// Compares the reports of two lists of files. Returns the text of the comparison, and whether the reports differ.
-pub(super) fn compared(
+fn compared(
     alloc: Global,
-    old: &[File],
-    new: &[File],
+    (old, new): (&[File<'_>], &[File<'_>]),
     options: &ChangeOptions,
 ) -> Result<(Vec<u8>, bool), AllocError> {
     let old = report(alloc, old)?;
     let new = report(alloc, new)?;
     let changes = ShownChanges::of(alloc, &old, &new, options, &[])?;
-    let text = text_of(alloc, &changes)?;
+    let text = text(alloc, options.format, &changes.comparison())?;
     Ok((text, changes.some_differ()))
 }
 
-/// Checks that the comparison of `OLD` and `NEW` has this text, and that the two differ.
-pub(super) fn check(
-    rt: &impl Abort,
-    alloc: Global,
-    options: &ChangeOptions,
-    wanted: &str,
-) -> Result<(), AllocError> {
-    let (text, differ) = compared(alloc, OLD, NEW, options)?;
-    let found = str::from_utf8(&text).unwrap_or("?");
-    assert!(rt; found == wanted, "{found}");
-    assert!(rt; differ);
+/// A test case: two lists of files, the options of the comparison, whether the reports of these files differ, and the text of the
+/// comparison.
+pub(super) type Case<'a> = (
+    (&'a [File<'a>], &'a [File<'a>]),
+    ChangeOptions,
+    bool,
+    &'a [u8],
+);
+
+/// Checks that a comparison has the text of its case, and that the reports differ if the case says so.
+pub(super) fn check<R: AllocGlobal + Abort>(rt: &R, case: &Case<'_>) -> Result<(), Fail> {
+    let (files, options, differ, wanted) = case;
+    let (text, found) = compared(rt.alloc(), *files, options)?;
+    let shown = str::from_utf8(&text).unwrap_or("?");
+    assert!(rt; text.as_slice() == *wanted, "{shown}");
+    assert!(rt; found == *differ, "{shown}");
+    Ok(())
+}
+
+pub(super) fn check_all<R: AllocGlobal + Abort>(rt: &R, cases: &[Case<'_>]) -> Result<(), Fail> {
+    for case in cases {
+        check(rt, case)?;
+    }
     Ok(())
 }

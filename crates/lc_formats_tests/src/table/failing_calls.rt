@@ -1,12 +1,13 @@
-//! The tables of runs with one worker in which one call to the tree fails, such as a listing or a read. Each call that a walk makes fails
-//! in one of the runs. In further runs, the tree has a file whose reads fail.
+//! The tables of runs in which one call to the tree fails, such as a listing or a read. Each call that a walk makes fails in one of the
+//! runs. In further runs, the tree has a file whose reads fail.
 
-use crate::table::asking::{Case, compare, compare_all};
-use crate::table::runs::{BUILD, FIRST_CASE, IGNORE, KEPT, LOG, RULES, SRC};
+use crate::table::asking::{Board, Case, HEADER, answer_of, compare, compare_all, new_writer};
+use crate::table::runs::{FIRST_CASE, WHOLE};
 use lc_paths::Outcome;
-use lc_tests::Sketch;
+use lc_tests::tree;
 use lc_tests::trees::{FailingCall, FailingTree};
 use lc_tree::MemTree;
+use std::alloc::{AllocError, Global};
 use std::process::Abort;
 use std::sync::Wait;
 use std::test::Fail;
@@ -24,8 +25,11 @@ const C_UNCOUNTED: &[u8] =
 /// table if one of these calls fails.
 type Step = (u64, u64, &'static str, &'static [u8]);
 
-/// All calls of a walk of the tree of `FIRST_CASE`, numbered from 0 to 14. A listing is one call. A file takes three: it is opened, read,
-/// and read to its end.
+/// The number of calls of a walk of the tree of `FIRST_CASE`. A listing is one call. A file takes three: it is opened, read, and read to
+/// its end.
+const CALLS: u64 = 15;
+
+/// All calls of a walk of the tree of `FIRST_CASE` by one worker.
 const STEPS: &[Step] = &[
     (
         0,
@@ -67,7 +71,7 @@ fn compare_failing<R: Threads + Wait + Sync + AllocGlobal + Abort>(
     for place in from..to {
         let call = FailingCall::new(place);
         let failing = FailingTree { tree, call: &call };
-        compare(rt, &failing, case, 1)?;
+        compare(rt, &failing, case, Board::Words, 1)?;
     }
     Ok(())
 }
@@ -75,7 +79,7 @@ fn compare_failing<R: Threads + Wait + Sync + AllocGlobal + Abort>(
 #[test]
 fn each_call_of_one_worker_fails(rt: HostRuntime) -> Result<(), Fail> {
     let whole = &FIRST_CASE;
-    let node = whole.top.node(rt.alloc())?;
+    let node = tree(rt.alloc(), whole.top)?;
     let tree = MemTree::new(&node);
     for (from, to, name, lines) in STEPS {
         let case = Case {
@@ -86,81 +90,79 @@ fn each_call_of_one_worker_fails(rt: HostRuntime) -> Result<(), Fail> {
         };
         compare_failing(&rt, &tree, *from, *to, &case)?;
     }
-    compare_failing(&rt, &tree, 15, 16, whole)
+    compare_failing(&rt, &tree, CALLS, CALLS + 1, whole)
 }
 
-/// The tree of `FIRST_CASE`, with each of its files in turn replaced by a file whose reads return its bytes and then fail.
-const FAILING_FILES: &[Case<'static>] = &[
-    Case {
-        name: "a_gitignore_that_fails",
-        top: Sketch::Dir(&[
-            (b".gitignore", Sketch::Failing(RULES)),
-            LOG,
-            KEPT,
-            BUILD,
-            SRC,
-        ]),
-        outcome: Outcome::SomeFaults,
-        lines: RULES_UNREAD,
-        ..FIRST_CASE
-    },
-    Case {
-        name: "an_ignored_file_that_fails",
-        top: Sketch::Dir(&[
-            IGNORE,
-            (b"a.log", Sketch::Failing(b"x\n")),
-            KEPT,
-            BUILD,
-            SRC,
-        ]),
-        ..FIRST_CASE
-    },
-    Case {
-        name: "a_kept_file_that_fails",
-        top: Sketch::Dir(&[
-            IGNORE,
-            LOG,
-            (b"keep.log", Sketch::Failing(b"k\n")),
-            BUILD,
-            SRC,
-        ]),
-        outcome: Outcome::SomeFaults,
-        lines: LOG_UNCOUNTED,
-        ..FIRST_CASE
-    },
-    Case {
-        name: "a_file_that_fails_in_an_ignored_directory",
-        top: Sketch::Dir(&[
-            IGNORE,
-            LOG,
-            KEPT,
-            (b"build", Sketch::Dir(&[(b"x.c", Sketch::Failing(b"x\n"))])),
-            SRC,
-        ]),
-        ..FIRST_CASE
-    },
-    Case {
-        name: "a_file_that_fails_two_levels_down",
-        top: Sketch::Dir(&[
-            IGNORE,
-            LOG,
-            KEPT,
-            BUILD,
-            (
-                b"src",
-                Sketch::Dir(&[(
-                    b"build",
-                    Sketch::Dir(&[(b"y.c", Sketch::Failing(b"int y;\r\n"))]),
-                )]),
-            ),
-        ]),
-        outcome: Outcome::SomeFaults,
-        lines: C_UNCOUNTED,
-        ..FIRST_CASE
-    },
+/// Returns whether a run with four workers in which the call with this number fails ends as one of the steps does. A run that makes more
+/// than `CALLS` calls began again, since several workers ran out of memory: this is an `AllocError`.
+fn ends_as_a_step<R: Threads + Wait + Sync + AllocGlobal>(
+    rt: &R,
+    tree: &MemTree<'_>,
+    place: u64,
+    board: Board,
+) -> Result<bool, AllocError> {
+    let call = FailingCall::new(place);
+    let failing = FailingTree { tree, call: &call };
+    let mut out = new_writer(rt.alloc())?;
+    let answer = answer_of(rt, &failing, "", board, 4, &mut out)?;
+    if call.begun() > CALLS {
+        return Err(AllocError);
+    }
+    let lines = out.taken.as_slice().strip_prefix(HEADER);
+    let is_known = STEPS.iter().any(|(_, _, _, wanted)| lines == Some(*wanted));
+    Ok(answer == Ok(Outcome::SomeFaults) && is_known)
+}
+
+#[test]
+fn each_call_of_four_workers_fails(rt: HostRuntime) -> Result<(), Fail> {
+    let node = tree(rt.alloc(), FIRST_CASE.top)?;
+    let tree = MemTree::new(&node);
+    for place in 0..CALLS {
+        assert!(rt;
+            ends_as_a_step(&rt, &tree, place, Board::Words)?,
+            "at {place}"
+        );
+        assert!(rt;
+            ends_as_a_step(&rt, &tree, place, Board::Locked)?,
+            "at {place}"
+        );
+    }
+    Ok(())
+}
+
+/// The name of each file of `FIRST_CASE`, and the lines of the table if the reads of this file return its bytes and then fail.
+const FAILING_FILES: &[(&str, &[u8])] = &[
+    (".gitignore", RULES_UNREAD),
+    ("a.log", WHOLE),
+    ("keep.log", LOG_UNCOUNTED),
+    ("x.c", WHOLE),
+    ("y.c", C_UNCOUNTED),
 ];
+
+/// Returns a sketch of the tree of `FIRST_CASE` in which the file with this name fails.
+fn with_failing_file(alloc: Global, name: &str) -> Result<String, AllocError> {
+    let word = format!(in alloc; "{name}=")?;
+    let (before, after) = FIRST_CASE.top.split_once(word.as_str()).unwrap_or(("", ""));
+    format!(in alloc; "{before}{name}!{after}")
+}
 
 #[test]
 fn each_file_fails(rt: HostRuntime) -> Result<(), Fail> {
-    compare_all(&rt, FAILING_FILES)
+    for (name, lines) in FAILING_FILES {
+        let top = with_failing_file(rt.alloc(), name)?;
+        let outcome = if *lines == WHOLE {
+            Outcome::Clean
+        } else {
+            Outcome::SomeFaults
+        };
+        let case = Case {
+            name,
+            top: top.as_str(),
+            outcome,
+            lines,
+            ..FIRST_CASE
+        };
+        compare_all(&rt, &[case])?;
+    }
+    Ok(())
 }

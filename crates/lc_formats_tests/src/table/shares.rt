@@ -1,8 +1,7 @@
 //! Tables that show the share of each row in the total.
 
 use crate::table::asking::TSV;
-use crate::table::screens::EMPTY;
-use crate::table::tables::{Case, NONE, compare_as_asked};
+use crate::table::tables::{NONE, Parts, check};
 use lc_census::Eol;
 use lc_formats::push_number;
 use lc_rules::TextState;
@@ -16,122 +15,75 @@ const SHARES: TableOptions = TableOptions {
 };
 
 /// Shares of 16 lines. The shares 6.25 and 43.75 per cent are rounded up.
-const SIXTEENTHS: Case = Case {
-    name: "shares_of_lines_rounded_half_up",
-    options: SHARES,
+const SIXTEENTHS: Parts = Parts {
     rows: &[
         (None, NONE, Eol::Lf, [1, 1, 0, 0]),
         (Some(b"c"), TextState::Set, Eol::Lf, [2, 7, 0, 0]),
         (Some(b"h"), TextState::Set, Eol::Lf, [1, 8, 0, 0]),
     ],
-    totals: [4, 16, 0, 0],
-    directories: 1,
     files: &[],
     faults: &[],
-    lines: b"ext    text  eol  files  lines  blank  bytes   share\n\
-             --------------------------------------------------------------------------\n\
-             -      -     lf       1      1      0      0    6.3%  \xe2\x96\x88\xe2\x96\x88\xe2\x96\x8c\n\
-             .c     set   lf       2      7      0      0   43.8%  \xe2\x96\x88\xe2\x96\x88\xe2\x96\x88\xe2\x96\x88\xe2\x96\x88\
-             \xe2\x96\x88\xe2\x96\x88\xe2\x96\x88\xe2\x96\x88\xe2\x96\x88\xe2\x96\x88\xe2\x96\x88\xe2\x96\x88\xe2\x96\x88\xe2\
-             \x96\x88\xe2\x96\x88\xe2\x96\x88\xe2\x96\x8c\n\
-             .h     set   lf       1      8      0      0   50.0%  \xe2\x96\x88\xe2\x96\x88\xe2\x96\x88\xe2\x96\x88\xe2\x96\x88\
-             \xe2\x96\x88\xe2\x96\x88\xe2\x96\x88\xe2\x96\x88\xe2\x96\x88\xe2\x96\x88\xe2\x96\x88\xe2\x96\x88\xe2\x96\x88\xe2\
-             \x96\x88\xe2\x96\x88\xe2\x96\x88\xe2\x96\x88\xe2\x96\x88\xe2\x96\x88\n\
-             --------------------------------------------------------------------------\n\
-             total                 4     16      0      0  100.0%\n\
-             \n\
-             directories  1\n",
 };
 
-const BY_FILES: TableOptions = TableOptions {
-    sort: Some(Number::Files),
-    ..SHARES
-};
+const OF_LINES: &str = "ext    text  eol  files  lines  blank  bytes   share
+--------------------------------------------------------------------------
+-      -     lf       1      1      0      0    6.3%  ██▌
+.c     set   lf       2      7      0      0   43.8%  █████████████████▌
+.h     set   lf       1      8      0      0   50.0%  ████████████████████
+--------------------------------------------------------------------------
+total                 4     16      0      0  100.0%
 
-const CLASSES: Case = Case {
-    name: "others_and_classes_have_shares_and_no_bars",
-    options: TableOptions {
-        top: Some(1),
-        ..BY_FILES
-    },
+directories  1,000
+";
+
+const OF_NOTHING: &str = "ext    text  eol  files  lines  blank  bytes  share
+-----------------------------------------------------
+-      -     lf       1      1      0      0   0.0%
+.c     set   lf       2      7      0      0   0.0%
+.h     set   lf       1      8      0      0   0.0%
+-----------------------------------------------------
+total                 4     16      0      0   0.0%
+
+directories  1,000
+";
+
+/// A row that is nearly all, and one whose bar has no eighth of a cell.
+const NEARLY_ALL: Parts = Parts {
     rows: &[
         (Some(b"c"), TextState::Set, Eol::Lf, [20_000, 7, 0, 9]),
         (Some(b"png"), TextState::Unset, Eol::Nul, [3, 1, 0, 5]),
     ],
-    totals: [20_003, 8, 0, 14],
-    lines: b"ext     text  eol   files  lines  blank  bytes   share\n\
-             ----------------------------------------------------------------------------\n\
-             .c      set   lf   20,000      7      0      9  100.0%  \xe2\x96\x88\xe2\x96\x88\xe2\x96\x88\xe2\x96\x88\xe2\x96\
-             \x88\xe2\x96\x88\xe2\x96\x88\xe2\x96\x88\xe2\x96\x88\xe2\x96\x88\xe2\x96\x88\xe2\x96\x88\xe2\x96\x88\xe2\x96\x88\
-             \xe2\x96\x88\xe2\x96\x88\xe2\x96\x88\xe2\x96\x88\xe2\x96\x88\xe2\x96\x88\n\
-             others                  3      1      0      5    0.0%\n\
-             ----------------------------------------------------------------------------\n\
-             total              20,003      8      0     14  100.0%\n\
-             text               20,000      7      0      9  100.0%\n\
-             binary                  3      1      0      5    0.0%\n\
-             \n\
-             directories  1\n",
     ..SIXTEENTHS
 };
 
-const CASES: &[Case] = &[
-    SIXTEENTHS,
-    Case {
-        name: "shares_of_nothing",
-        options: TableOptions {
-            sort: Some(Number::Bytes),
-            ..SHARES
-        },
-        rows: &[
-            (None, NONE, Eol::Lf, [1, 1, 0, 0]),
-            (Some(b"c"), TextState::Set, Eol::Lf, [2, 7, 0, 0]),
-            (Some(b"h"), TextState::Set, Eol::Lf, [1, 8, 0, 0]),
-        ],
-        lines: b"ext    text  eol  files  lines  blank  bytes  share\n\
-                 -----------------------------------------------------\n\
-                 -      -     lf       1      1      0      0   0.0%\n\
-                 .c     set   lf       2      7      0      0   0.0%\n\
-                 .h     set   lf       1      8      0      0   0.0%\n\
-                 -----------------------------------------------------\n\
-                 total                 4     16      0      0   0.0%\n\
-                 \n\
-                 directories  1\n",
-        ..SIXTEENTHS
-    },
-    CLASSES,
-    Case {
-        name: "a_bar_of_no_eighth",
-        options: BY_FILES,
-        lines: b"ext     text   eol   files  lines  blank  bytes   share\n\
-                 -----------------------------------------------------------------------------\n\
-                 .c      set    lf   20,000      7      0      9  100.0%  \xe2\x96\x88\xe2\x96\x88\xe2\x96\x88\xe2\x96\x88\xe2\x96\
-                 \x88\xe2\x96\x88\xe2\x96\x88\xe2\x96\x88\xe2\x96\x88\xe2\x96\x88\xe2\x96\x88\xe2\x96\x88\xe2\x96\x88\xe2\x96\x88\
-                 \xe2\x96\x88\xe2\x96\x88\xe2\x96\x88\xe2\x96\x88\xe2\x96\x88\xe2\x96\x88\n\
-                 .png    unset  nul       3      1      0      5    0.0%\n\
-                 -----------------------------------------------------------------------------\n\
-                 total               20,003      8      0     14  100.0%\n\
-                 text                20,000      7      0      9  100.0%\n\
-                 binary                   3      1      0      5    0.0%\n\
-                 \n\
-                 directories  1\n",
-        ..CLASSES
-    },
-    Case {
-        name: "no_rows",
-        options: SHARES,
-        lines: b"ext    text  eol  files  lines  blank  bytes  share\n\
-                 -----------------------------------------------------\n\
-                 -----------------------------------------------------\n\
-                 total                 0      0      0      0   0.0%\n\
-                 \n\
-                 directories  1\n",
-        ..EMPTY
-    },
+const OF_FILES: &str = "ext     text   eol   files  lines  blank  bytes   share
+-----------------------------------------------------------------------------
+.c      set    lf   20,000      7      0      9  100.0%  ████████████████████
+.png    unset  nul       3      1      0      5    0.0%
+-----------------------------------------------------------------------------
+total               20,003      8      0     14  100.0%
+text                20,000      7      0      9  100.0%
+binary                   3      1      0      5    0.0%
+
+directories  1,000
+";
+
+const CASES: &[(Parts, Option<Number>, &str)] = &[
+    (SIXTEENTHS, None, OF_LINES),
+    (SIXTEENTHS, Some(Number::Bytes), OF_NOTHING),
+    (NEARLY_ALL, Some(Number::Files), OF_FILES),
 ];
 
 #[test]
 fn shares_of_rows(rt: HostRuntime) -> Result<(), Fail> {
-    compare_as_asked(&rt, b"", CASES)
+    for (parts, sort, wanted) in CASES {
+        let options = TableOptions {
+            sort: *sort,
+            ..SHARES
+        };
+        check(&rt, parts, options, wanted.as_bytes())?;
+    }
+    Ok(())
 }
 
 #[test]

@@ -5,147 +5,68 @@ use std::alloc::{AllocError, Global};
 use std::process::Abort;
 use std::test::Fail;
 
-/// A text, and the expected message about it.
-type Case = (&'static [u8], &'static str);
-
-const NO_JSON: &[Case] = &[
+/// Texts that have white space alone, or are not UTF-8, and the expected messages about them.
+const NO_TEXTS: &[(&[u8], &str)] = &[
     (b"", "is no report: it is empty"),
     (b" \r\n\t", "is no report: it is empty"),
-    (b"x", "is no report: no JSON object at byte 0"),
-    (b"  [1]", "is no report: no JSON object at byte 2"),
     (b"\xef\xbb\xbf{}", "is no report: no JSON object at byte 0"),
-    (b"{\"a\":1", "is no report: no JSON object at byte 6"),
-    (b"{\"a\":\"}", "is no report: no JSON object at byte 7"),
-    (b"{\"a\":1,}", "is no report: no JSON object at byte 7"),
-    (b"{\"a\":01}", "is no report: no JSON object at byte 5"),
     (b"{\"\xff\":1}", "is no report: no JSON object at byte 2"),
-    (b"{}", "is no report: no member total"),
-    (b" {\"total\":null}", "is no report: bad total"),
-    (b"{\"total\":{}}", "is no report: no member files"),
-    (
-        b"{\"total\":{\"files\":1,\"files\":1}}",
-        "is no report: files twice",
-    ),
-    (b"{\"total\":{},\"total\":{}}", "is no report: total twice"),
-    (b"{\"rows\":[],\"rows\":[]}", "is no report: rows twice"),
-    (b"{\"rows\":{}}", "is no report: bad rows"),
-    (b"{\"rows\":[1]}", "is no report: bad rows"),
-    (
-        b"{\"faults\":[{\"word\":\"lost\"}]}",
-        "is no report: bad word",
-    ),
-    (
-        b"{\"faults\":[{\"word\":\"read\"}]}",
-        "is no report: no member path",
-    ),
 ];
 
-const NUMBERS: &[Case] = &[
-    (b"{\"total\":{\"files\":\"1\"}}", "is no report: bad files"),
-    (b"{\"total\":{\"files\":1.0}}", "is no report: bad files"),
-    (b"{\"total\":{\"files\":1e3}}", "is no report: bad files"),
-    (b"{\"total\":{\"files\":-0}}", "is no report: bad files"),
-    (
-        b"{\"total\":{\"files\":18446744073709551616}}",
-        "is no report: bad files",
-    ),
-    (
-        b"{\"total\":{\"files\":0,\"lines\":340282366920938463463374607431768211456}}",
-        "is no report: bad lines",
-    ),
-    (
-        b"{\"faults\":[{\"word\":\"read\",\"path_bytes\":[256]}]}",
-        "is no report: bad path_bytes",
-    ),
-    (
-        b"{\"faults\":[{\"word\":\"read\",\"path_bytes\":\"a\"}]}",
-        "is no report: bad path_bytes",
-    ),
-    (
-        b"{\"faults\":[{\"word\":\"read\",\"path\":\"a\",\"path_bytes\":[97]}]}",
-        "is no report: path twice",
-    ),
-];
-
-const ROWS: &[Case] = &[
-    (b"{\"rows\":[{\"ext\":\".\"}]}", "is no report: bad ext"),
-    (b"{\"rows\":[{\"ext\":\"c\"}]}", "is no report: bad ext"),
-    (b"{\"rows\":[{\"ext\":\"\"}]}", "is no report: bad ext"),
-    (b"{\"rows\":[{\"ext\":\".a.b\"}]}", "is no report: bad ext"),
-    (b"{\"rows\":[{\"ext\":\".a/b\"}]}", "is no report: bad ext"),
-    (
-        b"{\"rows\":[{\"ext\":\".\\u0000\"}]}",
-        "is no report: bad ext",
-    ),
-    (
-        b"{\"rows\":[{\"ext\":null,\"ext_bytes\":[46,255]}]}",
-        "is no report: ext twice",
-    ),
-    (
-        b"{\"rows\":[{\"text\":\"sett\"}]}",
-        "is no report: bad text",
-    ),
-    (b"{\"rows\":[{\"eol\":null}]}", "is no report: bad eol"),
-    (b"{\"rows\":[{\"eol\":\"LF\"}]}", "is no report: bad eol"),
-    (
-        b"{\"rows\":[{\"files\":0,\"lines\":0,\"blank\":0,\"bytes\":0}]}",
-        "is no report: bad files",
-    ),
-];
-
-const ENTRIES: &[Case] = &[
-    (b"{\"files\":[{\"path\":\"\"}]}", "is no report: bad path"),
-    (b"{\"files\":[{\"path\":\"a/\"}]}", "is no report: bad path"),
-    (
-        b"{\"files\":[{\"path\":\"a\\u0000b\"}]}",
-        "is no report: bad path",
-    ),
-    (
-        b"{\"files\":[{\"path\":\"a\",\"text\":null}]}",
-        "is no report: no member eol",
-    ),
-    (b"{\"left\":[{\"path\":\"a/\"}]}", "is no report: bad path"),
-    (
-        b"{\"left\":[{\"path\":\"a\",\"reason\":\"rules\"}]}",
-        "is no report: bad reason",
-    ),
-    (
-        b"{\"left\":[{\"path\":\"a\",\"reason\":\"rule\",\"file\":\"b/.gitignore\",\"line\":1}]}",
-        "is no report: bad file",
-    ),
-    (
-        b"{\"left\":[{\"path\":\"a/b\",\"reason\":\"rule\",\"file\":\"a.gitignore\",\"line\":1}]}",
-        "is no report: bad file",
-    ),
-    (
-        b"{\"left\":[{\"path\":\"a\",\"reason\":\"rule\",\"file\":\"--include\",\"line\":1}]}",
-        "is no report: bad file",
-    ),
-    (
-        b"{\"left\":[{\"path\":\"a\",\"reason\":\"rule\",\"file\":\".gitignore\",\"line\":-1}]}",
-        "is no report: bad line",
-    ),
-    (
-        b"{\"left\":[{\"path\":\"a\",\"reason\":\"include\",\"kind\":\"dir\"}]}",
-        "is no report: bad kind",
-    ),
-    (
-        b"{\"left\":[{\"path\":\"a\",\"reason\":\"filesystem\",\"kind\":\"other\"}]}",
-        "is no report: bad kind",
-    ),
-    (
-        b"{\"left\":[{\"path\":\"a\",\"reason\":\"other\",\"kind\":\"file\"}]}",
-        "is no report: bad kind",
-    ),
-    (
-        b"{\"left\":[{\"path\":\"a\",\"reason\":\"git\",\"kind\":\"link\"}]}",
-        "is no report: bad kind",
-    ),
-    (
-        b"{\"left\":[{\"path\":\"a\",\"reason\":\"attribute\",\"kind\":\"file\"}]}",
-        "is no report: no member attribute",
-    ),
-];
+/// Texts that are refused. Before each comes the message, without `is no report: `.
+const REFUSED: &str = r#"
+no JSON object at byte 0: x
+no JSON object at byte 2:   [1]
+no JSON object at byte 6: {"a":1
+no JSON object at byte 7: {"a":"}
+no JSON object at byte 7: {"a":1,}
+no JSON object at byte 5: {"a":01}
+no member total: {}
+bad total:  {"total":null}
+no member files: {"total":{}}
+files twice: {"total":{"files":1,"files":1}}
+total twice: {"total":{},"total":{}}
+rows twice: {"rows":[],"rows":[]}
+bad rows: {"rows":{}}
+bad rows: {"rows":[1]}
+bad word: {"faults":[{"word":"lost"}]}
+no member path: {"faults":[{"word":"read"}]}
+bad files: {"total":{"files":"1"}}
+bad files: {"total":{"files":1.0}}
+bad files: {"total":{"files":1e3}}
+bad files: {"total":{"files":-0}}
+bad files: {"total":{"files":18446744073709551616}}
+bad lines: {"total":{"files":0,"lines":340282366920938463463374607431768211456}}
+bad path_bytes: {"faults":[{"word":"read","path_bytes":[256]}]}
+bad path_bytes: {"faults":[{"word":"read","path_bytes":"a"}]}
+path twice: {"faults":[{"word":"read","path":"a","path_bytes":[97]}]}
+bad ext: {"rows":[{"ext":"."}]}
+bad ext: {"rows":[{"ext":"c"}]}
+bad ext: {"rows":[{"ext":""}]}
+bad ext: {"rows":[{"ext":".a.b"}]}
+bad ext: {"rows":[{"ext":".a/b"}]}
+bad ext: {"rows":[{"ext":".\u0000"}]}
+ext twice: {"rows":[{"ext":null,"ext_bytes":[46,255]}]}
+bad text: {"rows":[{"text":"sett"}]}
+bad eol: {"rows":[{"eol":null}]}
+bad eol: {"rows":[{"eol":"LF"}]}
+bad files: {"rows":[{"files":0,"lines":0,"blank":0,"bytes":0}]}
+bad path: {"files":[{"path":""}]}
+bad path: {"files":[{"path":"a/"}]}
+bad path: {"files":[{"path":"a\u0000b"}]}
+bad path: {"left":[{"path":"a/"}]}
+no member eol: {"files":[{"path":"a","text":null}]}
+bad reason: {"left":[{"path":"a","reason":"rules"}]}
+bad file: {"left":[{"path":"a","reason":"rule","file":"b/.gitignore","line":1}]}
+bad file: {"left":[{"path":"a/b","reason":"rule","file":"a.gitignore","line":1}]}
+bad file: {"left":[{"path":"a","reason":"rule","file":"--include","line":1}]}
+bad line: {"left":[{"path":"a","reason":"rule","file":".gitignore","line":-1}]}
+bad kind: {"left":[{"path":"a","reason":"include","kind":"dir"}]}
+bad kind: {"left":[{"path":"a","reason":"filesystem","kind":"other"}]}
+bad kind: {"left":[{"path":"a","reason":"other","kind":"file"}]}
+bad kind: {"left":[{"path":"a","reason":"git","kind":"link"}]}
+no member attribute: {"left":[{"path":"a","reason":"attribute","kind":"file"}]}
+"#;
 
 /// Returns the error message about a text, or an empty one if the text is read.
 pub(super) fn said_of(alloc: Global, text: &[u8]) -> Result<String, AllocError> {
@@ -156,37 +77,28 @@ pub(super) fn said_of(alloc: Global, text: &[u8]) -> Result<String, AllocError> 
     }
 }
 
-pub(super) fn compare<R: AllocGlobal + Abort>(rt: &R, cases: &[Case]) -> Result<(), Fail> {
-    for (text, said) in cases {
-        let found = said_of(rt.alloc(), text)?;
-        assert!(rt;
-            found.as_str() == *said,
-            "{} and not {}",
-            found.as_str(),
-            said
-        );
+fn compare<R: AllocGlobal + Abort>(rt: &R, text: &[u8], wanted: &str) -> Result<(), Fail> {
+    let said = said_of(rt.alloc(), text)?;
+    assert!(rt; said.as_str() == wanted, "{said} and not {wanted}");
+    Ok(())
+}
+
+#[test]
+fn texts_that_are_empty_or_not_utf8(rt: HostRuntime) -> Result<(), Fail> {
+    for (text, wanted) in NO_TEXTS {
+        compare(&rt, text, wanted)?;
     }
     Ok(())
 }
 
 #[test]
-fn texts_that_are_no_objects(rt: HostRuntime) -> Result<(), Fail> {
-    compare(&rt, NO_JSON)
-}
-
-#[test]
-fn numbers_that_are_refused(rt: HostRuntime) -> Result<(), Fail> {
-    compare(&rt, NUMBERS)
-}
-
-#[test]
-fn rows_that_are_refused(rt: HostRuntime) -> Result<(), Fail> {
-    compare(&rt, ROWS)
-}
-
-#[test]
-fn entries_that_are_refused(rt: HostRuntime) -> Result<(), Fail> {
-    compare(&rt, ENTRIES)
+fn texts_that_are_refused(rt: HostRuntime) -> Result<(), Fail> {
+    for line in REFUSED.trim().lines() {
+        let (message, text) = line.split_once(": ").unwrap_or(("", line));
+        let wanted = format!(in rt.alloc(); "is no report: {message}")?;
+        compare(&rt, text.as_bytes(), &wanted)?;
+    }
+    Ok(())
 }
 
 /// Returns a JSON object with this number of arrays, each inside the one before.

@@ -8,130 +8,49 @@ use std::alloc::{AllocError, Global};
 use std::process::Abort;
 use std::test::Fail;
 
-/// The names of attributes, some files of a report, and the words of the states that are read, or the error.
-struct Case {
-    names: &'static [&'static str],
-    files: &'static str,
-    said: &'static str,
-}
-
 const NONE: &str = "{\"files\":0,\"lines\":0,\"blank\":0,\"bytes\":0}";
 
 /// Members that each file has.
 const FILE: &str =
     "\"path\":\"a\",\"text\":null,\"eol\":\"lf\",\"lines\":1,\"blank\":0,\"bytes\":2";
 
-const STATES: &[Case] = &[
-    Case {
-        names: &["attr:team"],
-        files: "\"attr:team\":null",
-        said: "-;",
-    },
-    Case {
-        names: &["attr:team", "attr:kind"],
-        files: "\"attr:team\":true,\"attr:kind\":false",
-        said: "set unset;",
-    },
-    Case {
-        names: &["attr:kind", "attr:team"],
-        files: "\"attr:team\":\"core\",\"attr:kind\":\"\"",
-        said: "= =core;",
-    },
-    Case {
-        names: &["attr:team", "attr:kind"],
-        files: "\"attr:kind\":\"set\",\"attr:team_bytes\":[255,97],\"attr:other\":7",
-        said: "=[255, 97] =set;",
-    },
-    Case {
-        names: &["attr:team"],
-        files: "\"attr:team_bytes\":[]",
-        said: "=;",
-    },
-    Case {
-        names: &["attr:team"],
-        files: "\"attr:team\":null|\"attr:team\":true|\"attr:team\":false|\"attr:team\":\"core\"",
-        said: "-;set;unset;=core;",
-    },
-    Case {
-        names: &[],
-        files: "\"attr:team\":7,\"attr:team\":8,\"attr:team_bytes\":null",
-        said: ";",
-    },
-];
-
-const REFUSED: &[Case] = &[
-    Case {
-        names: &["attr:team"],
-        files: "\"team\":true",
-        said: "NoAttribute(0)",
-    },
-    Case {
-        names: &["attr:team", "attr:kind", "attr:size"],
-        files: "\"attr:team\":true,\"attr:kind\":true,\"attr:size\":true|\"attr:team\":null",
-        said: "NoAttribute(1)",
-    },
-    Case {
-        names: &["attr:team"],
-        files: "\"attr:team\":null,\"attr:team_bytes\":[97]",
-        said: "NoReport(AttributeTwice(0))",
-    },
-    Case {
-        names: &["attr:kind", "attr:team"],
-        files: "\"attr:kind\":null,\"attr:team\":\"a\",\"attr:team\":\"a\"",
-        said: "NoReport(AttributeTwice(1))",
-    },
-    Case {
-        names: &["attr:team"],
-        files: "\"attr:team_bytes\":[97],\"attr:team_bytes\":[97]",
-        said: "NoReport(AttributeTwice(0))",
-    },
-    Case {
-        names: &["attr:kind", "attr:team"],
-        files: "\"attr:kind\":null,\"attr:team\":1",
-        said: "NoReport(BadAttribute(1))",
-    },
-    Case {
-        names: &["attr:team"],
-        files: "\"attr:team\":[97]",
-        said: "NoReport(BadAttribute(0))",
-    },
-    Case {
-        names: &["attr:team"],
-        files: "\"attr:team\":{}",
-        said: "NoReport(BadAttribute(0))",
-    },
-    Case {
-        names: &["attr:team"],
-        files: "\"attr:team_bytes\":[256]",
-        said: "NoReport(BadAttribute(0))",
-    },
-    Case {
-        names: &["attr:team"],
-        files: "\"attr:team_bytes\":\"a\"",
-        said: "NoReport(BadAttribute(0))",
-    },
-    Case {
-        names: &["attr:team"],
-        files: "\"attr:team_bytes\":null",
-        said: "NoReport(BadAttribute(0))",
-    },
-];
+/// The names of attributes, the members of some files of a report, and the words of the states that are read, or the error.
+const STATES: &str = r#"
+attr:team; "attr:team":null => -;
+attr:team attr:kind; "attr:team":true,"attr:kind":false => set unset;
+attr:kind attr:team; "attr:team":"core","attr:kind":"" => = =core;
+attr:team attr:kind; "attr:kind":"set","attr:team_bytes":[255,97],"attr:other":7 => =[255, 97] =set;
+attr:team; "attr:team_bytes":[] => =;
+attr:team; "attr:team":null|"attr:team":true|"attr:team":false|"attr:team":"core" => -;set;unset;=core;
+; "attr:team":7,"attr:team":8,"attr:team_bytes":null => ;
+attr:team; "team":true => NoAttribute(0)
+attr:team attr:kind attr:size; "attr:team":true,"attr:kind":true,"attr:size":true|"attr:team":null => NoAttribute(1)
+attr:team; "attr:team":null,"attr:team_bytes":[97] => NoReport(AttributeTwice(0))
+attr:team; "attr:team_bytes":[97],"attr:team_bytes":[97] => NoReport(AttributeTwice(0))
+attr:kind attr:team; "attr:kind":null,"attr:team":"a","attr:team":"a" => NoReport(AttributeTwice(1))
+attr:kind attr:team; "attr:kind":null,"attr:team":1 => NoReport(BadAttribute(1))
+attr:team; "attr:team":[97] => NoReport(BadAttribute(0))
+attr:team; "attr:team":{} => NoReport(BadAttribute(0))
+attr:team; "attr:team_bytes":[256] => NoReport(BadAttribute(0))
+attr:team; "attr:team_bytes":"a" => NoReport(BadAttribute(0))
+attr:team; "attr:team_bytes":null => NoReport(BadAttribute(0))
+"#;
 
 const EMPTY: &str = "{\"rows\":[],\"total\":{\"files\":0,\"lines\":0,\"blank\":0,\"bytes\":0},\
-                     \"text\":{\"files\":0,\"lines\":0,\"blank\":0,\"bytes\":0},\
-                     \"binary\":{\"files\":0,\"lines\":0,\"blank\":0,\"bytes\":0},\"directories\":1,\"faults\":[]}";
+     \"text\":{\"files\":0,\"lines\":0,\"blank\":0,\"bytes\":0},\
+     \"binary\":{\"files\":0,\"lines\":0,\"blank\":0,\"bytes\":0},\"directories\":1,\"faults\":[]}";
 
 /// A report whose rows are by an attribute, and which lists no files.
 const UNLISTED: &str =
     "{\"rows\":[{\"attr:team\":true,\"ext\":null,\"files\":1,\"lines\":1,\"blank\":0,\"bytes\":2},\
-                        {\"attr:team\":null,\"ext\":null,\"files\":2,\"lines\":2,\"blank\":0,\"bytes\":4}],\
-                        \"total\":{\"files\":3,\"lines\":3,\"blank\":0,\"bytes\":6},\
-                        \"text\":{\"files\":3,\"lines\":3,\"blank\":0,\"bytes\":6},\
-                        \"binary\":{\"files\":0,\"lines\":0,\"blank\":0,\"bytes\":0},\"directories\":1,\"faults\":[]}";
+     {\"attr:team\":null,\"ext\":null,\"files\":2,\"lines\":2,\"blank\":0,\"bytes\":4}],\
+     \"total\":{\"files\":3,\"lines\":3,\"blank\":0,\"bytes\":6},\
+     \"text\":{\"files\":3,\"lines\":3,\"blank\":0,\"bytes\":6},\
+     \"binary\":{\"files\":0,\"lines\":0,\"blank\":0,\"bytes\":0},\"directories\":1,\"faults\":[]}";
 
-fn columns_of(alloc: Global, names: &[&str]) -> Result<Vec<AttributeColumn>, AllocError> {
+fn columns_of(alloc: Global, names: &str) -> Result<Vec<AttributeColumn>, AllocError> {
     let mut columns = Vec::new(alloc);
-    for name in names {
+    for name in names.split_ascii_whitespace() {
         columns.push(AttributeColumn::of(alloc, name)?)?;
     }
     Ok(columns)
@@ -195,7 +114,7 @@ fn states_text(alloc: Global, reports: &[Report]) -> Result<String, AllocError> 
 }
 
 /// Returns the words of the states of a report's files, or the error if the text is refused.
-fn said_of(alloc: Global, text: &str, names: &[&str]) -> Result<String, AllocError> {
+fn said_of(alloc: Global, text: &str, names: &str) -> Result<String, AllocError> {
     let columns = columns_of(alloc, names)?;
     match read_reports(alloc, text.as_bytes(), &columns) {
         Ok(reports) => states_text(alloc, &reports),
@@ -204,35 +123,23 @@ fn said_of(alloc: Global, text: &str, names: &[&str]) -> Result<String, AllocErr
     }
 }
 
-fn compare(rt: &impl Abort, alloc: Global, cases: &[Case]) -> Result<(), Fail> {
-    for case in cases {
-        let text = report_text(alloc, case.files)?;
-        let found = said_of(alloc, &text, case.names)?;
-        assert!(rt;
-            found.as_str() == case.said,
-            "{}: {}",
-            case.files,
-            found.as_str()
-        );
+#[test]
+fn states_are_read_or_refused(rt: HostRuntime) -> Result<(), Fail> {
+    for line in STATES.trim().lines() {
+        let (names, rest) = line.split_once("; ").unwrap_or(("", line));
+        let (files, said) = rest.split_once(" => ").unwrap_or((rest, ""));
+        let text = report_text(rt.alloc(), files)?;
+        let found = said_of(rt.alloc(), &text, names)?;
+        assert!(rt; found.as_str() == said, "{line}: {found}");
     }
     Ok(())
 }
 
 #[test]
-fn states_are_read(rt: HostRuntime) -> Result<(), Fail> {
-    compare(&rt, rt.alloc(), STATES)
-}
-
-#[test]
-fn states_that_are_refused(rt: HostRuntime) -> Result<(), Fail> {
-    compare(&rt, rt.alloc(), REFUSED)
-}
-
-#[test]
 fn only_listed_files_have_states(rt: HostRuntime) -> Result<(), Fail> {
-    assert!(rt; said_of(rt.alloc(), UNLISTED, &["attr:team"])?.as_str() == "NoAttribute(0)");
-    assert!(rt; said_of(rt.alloc(), UNLISTED, &[])?.as_str() == "");
+    assert!(rt; said_of(rt.alloc(), UNLISTED, "attr:team")?.as_str() == "NoAttribute(0)");
+    assert!(rt; said_of(rt.alloc(), UNLISTED, "")?.as_str() == "");
     // A report that counts no files lists all of them.
-    assert!(rt; said_of(rt.alloc(), EMPTY, &["attr:team"])?.as_str() == "");
+    assert!(rt; said_of(rt.alloc(), EMPTY, "attr:team")?.as_str() == "");
     Ok(())
 }

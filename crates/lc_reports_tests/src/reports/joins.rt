@@ -1,9 +1,7 @@
 //! Tests of joined reports: the sums, the columns, the optional lists, and the lines that are kept only once.
 
-use crate::reports::reading::reports_of;
-use crate::reports::telling::report_text;
+use crate::reading::{has_lines, reports_of};
 use lc_reports::joined;
-use lc_tests::has_words;
 use std::alloc::Global;
 use std::process::Abort;
 use std::test::Fail;
@@ -69,23 +67,6 @@ const SUMS: &[Case] = &[
     ("a report of nothing", &[A, ""], A),
     ("two reports", &[A, B], A_AND_B),
     ("in the other order", &[B, A], A_AND_B),
-    (
-        "a report twice",
-        &[
-            "row .c - lf 2 10 3 65
-             total 2 10 3 65
-             directories 2
-             entries 7",
-            "row .c - lf 2 10 3 65
-             total 2 10 3 65
-             directories 2
-             entries 7",
-        ],
-        "row .c - lf 4 20 6 130
-         total 4 20 6 130
-         directories 4
-         entries 14",
-    ),
     (
         "three reports",
         &[
@@ -190,49 +171,39 @@ const LISTS: &[Case] = &[
     ),
 ];
 
-const REPEATED: &[Case] = &[
-    (
-        "a skipped entry of two reports",
-        &["left rule .gitignore:1 gen/", "left rule .gitignore:1 gen/"],
-        "left rule .gitignore:1 gen/",
-    ),
-    (
-        "a fault of three reports",
-        &["fault read d", "fault read d", "fault read d"],
-        "fault read d",
-    ),
-    (
-        "lines twice in one report",
-        &["left git .git/\nfault read d\nfault read d\nleft git .git/"],
-        "left git .git/\nfault read d",
-    ),
-    (
-        "a skipped entry between others",
-        &[
-            "left git a\nleft git b\nleft git c",
-            "left git b\nleft git d",
-        ],
-        "left git a\nleft git b\nleft git c\nleft git d",
-    ),
-    (
-        "the same attribute",
-        &["left attribute made a.c", "left attribute made a.c"],
-        "left attribute made a.c",
-    ),
-    // a path that was counted twice is in the list twice
-    (
-        "a file of two reports",
-        &["file - lf 1 0 2 a.c", "file - lf 1 0 2 a.c"],
+/// Skipped entries and errors are kept once, but a path that was counted twice is in the list twice.
+const REPEATED: &[Case] = &[(
+    "lines of three reports",
+    &[
         "file - lf 1 0 2 a.c
-         file - lf 1 0 2 a.c",
-    ),
-];
+         left git a
+         left git b
+         left attribute made c
+         left rule .gitignore:1 gen/
+         fault read d
+         fault read d",
+        "file - lf 1 0 2 a.c
+         left git b
+         left attribute made b
+         left attribute made c
+         left rule .gitignore:1 gen/
+         fault read d",
+        "fault read d",
+    ],
+    "file - lf 1 0 2 a.c
+     file - lf 1 0 2 a.c
+     left git a
+     left attribute made b
+     left git b
+     left attribute made c
+     left rule .gitignore:1 gen/
+     fault read d",
+)];
 
 fn check_all(rt: &impl Abort, alloc: Global, cases: &[Case]) -> Result<(), Fail> {
     for (name, reports, wanted) in cases {
         let report = joined(alloc, reports_of(alloc, reports)?)?;
-        let found = report_text(alloc, &report)?;
-        assert!(rt; has_words(&found, wanted), "{name}: {found}");
+        assert!(rt; has_lines(alloc, &report, wanted)?, "{name}: {report:?}");
     }
     Ok(())
 }

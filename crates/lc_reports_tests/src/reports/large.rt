@@ -1,79 +1,27 @@
 //! Tests of joined reports whose sums just fit their types, and of sums that do not fit.
 
-use crate::reports::reading::reports_of;
-use crate::reports::telling::report_text;
+use crate::reading::{has_lines, reports_of};
 use lc_reports::{JoinFault, joined};
-use lc_tests::has_words;
 use std::alloc::Global;
 use std::process::Abort;
 use std::test::Fail;
 
-/// The name of the sum that is too large, and the lines of each report to join.
-type Case = (&'static str, &'static [&'static str]);
-
-const TOO_LARGE: &[Case] = &[
-    (
-        "the files of a row",
-        &[
-            "row .c - lf 18446744073709551615 0 0 0",
-            "row .c - lf 1 0 0 0",
-        ],
-    ),
-    (
-        "the files of two rows",
-        &[
-            "row .c - lf 9223372036854775808 0 0 0",
-            "row .h - lf 9223372036854775808 0 0 0",
-        ],
-    ),
-    (
-        "the lines of a row",
-        &[
-            "row .c - lf 1 340282366920938463463374607431768211455 0 0",
-            "row .c - lf 1 1 0 0",
-        ],
-    ),
-    (
-        "the blank lines of a row",
-        &[
-            "row .c - lf 1 0 340282366920938463463374607431768211455 0",
-            "row .c - lf 1 0 1 0",
-        ],
-    ),
-    (
-        "the bytes of a row",
-        &[
-            "row .c - lf 1 0 0 170141183460469231731687303715884105728",
-            "row .c - lf 1 0 0 170141183460469231731687303715884105728",
-        ],
-    ),
-    (
-        "the files of the totals",
-        &["total 18446744073709551615 0 0 0", "total 1 0 0 0"],
-    ),
-    (
-        "the lines of the totals",
-        &[
-            "total 1 340282366920938463463374607431768211455 0 0",
-            "total 1 1 0 0",
-        ],
-    ),
-    (
-        "the lines of text files",
-        &[
-            "text 1 340282366920938463463374607431768211455 0 0",
-            "text 1 1 0 0",
-        ],
-    ),
-    (
-        "binary files",
-        &["binary 18446744073709551615 0 0 0", "binary 1 0 0 0"],
-    ),
-    (
-        "directories",
-        &["directories 18446744073709551615", "directories 1"],
-    ),
-    ("entries", &["entries 18446744073709551615", "entries 1"]),
+/// The lines of two reports with a sum that is too large.
+const TOO_LARGE: &[[&str; 2]] = &[
+    ["row .c - lf max 0 0 0", "row .c - lf 1 0 0 0"],
+    [
+        "row .c - lf 9223372036854775808 0 0 0",
+        "row .h - lf 9223372036854775808 0 0 0",
+    ],
+    ["row .c - lf 1 max 0 0", "row .c - lf 1 1 0 0"],
+    ["row .c - lf 1 0 max 0", "row .c - lf 1 0 1 0"],
+    ["row .c - lf 1 0 0 max", "row .c - lf 1 0 0 max"],
+    ["total max 0 0 0", "total 1 0 0 0"],
+    ["total 1 max 0 0", "total 1 1 0 0"],
+    ["text 1 max 0 0", "text 1 1 0 0"],
+    ["binary max 0 0 0", "binary 1 0 0 0"],
+    ["directories max", "directories 1"],
+    ["entries max", "entries 1"],
 ];
 
 const LARGEST: &[&str] = &[
@@ -87,12 +35,10 @@ const LARGEST: &[&str] = &[
      entries 2",
 ];
 
-const LARGEST_SUMS: &str = "row .c - lf 18446744073709551615 340282366920938463463374607431768211455
-         340282366920938463463374607431768211455 340282366920938463463374607431768211455
-     total 18446744073709551615 340282366920938463463374607431768211455
-         340282366920938463463374607431768211455 340282366920938463463374607431768211455
-     directories 18446744073709551615
-     entries 18446744073709551615";
+const LARGEST_SUMS: &str = "row .c - lf max max max max
+     total max max max max
+     directories max
+     entries max";
 
 fn is_too_large(alloc: Global, reports: &[&str]) -> Result<bool, Fail> {
     match joined(alloc, reports_of(alloc, reports)?) {
@@ -104,8 +50,8 @@ fn is_too_large(alloc: Global, reports: &[&str]) -> Result<bool, Fail> {
 
 #[test]
 fn sums_that_do_not_fit(rt: HostRuntime) -> Result<(), Fail> {
-    for (name, reports) in TOO_LARGE {
-        assert!(rt; is_too_large(rt.alloc(), reports)?, "{name}");
+    for reports in TOO_LARGE {
+        assert!(rt; is_too_large(rt.alloc(), reports)?, "{}", reports[0]);
     }
     Ok(())
 }
@@ -113,8 +59,7 @@ fn sums_that_do_not_fit(rt: HostRuntime) -> Result<(), Fail> {
 #[test]
 fn sums_that_just_fit(rt: HostRuntime) -> Result<(), Fail> {
     let report = joined(rt.alloc(), reports_of(rt.alloc(), LARGEST)?)?;
-    let found = report_text(rt.alloc(), &report)?;
-    assert!(rt; has_words(&found, LARGEST_SUMS), "{found}");
+    assert!(rt; has_lines(rt.alloc(), &report, LARGEST_SUMS)?, "{report:?}");
     Ok(())
 }
 

@@ -1,9 +1,7 @@
 //! Tests of reports with a name in front of their paths, and in front of the paths of files whose rules skip entries.
 
-use crate::reports::reading::report_of;
-use crate::reports::telling::report_text;
+use crate::reading::{has_lines, report_of};
 use lc_reports::named;
-use lc_tests::has_words;
 use std::alloc::{AllocError, Global};
 use std::process::Abort;
 use std::test::Fail;
@@ -12,103 +10,91 @@ use std::test::Fail;
 type Case = (&'static str, &'static str, &'static str);
 
 const PATHS: &[Case] = &[
-    ("src", "fault read .", "fault read src"),
-    ("src", "file - lf 3 1 9 x.c", "file - lf 3 1 9 src/x.c"),
     (
         "src",
-        "file - lf 3 1 9 x.c set - =a unset",
-        "file - lf 3 1 9 src/x.c set - =a unset",
+        "file - lf 3 1 9 x.c
+         file - lf 3 1 9 y.c set - =a unset
+         left git .git/
+         left attribute export-ignore d/
+         fault read .
+         fault absent d/x.c",
+        "file - lf 3 1 9 src/x.c
+         file - lf 3 1 9 src/y.c set - =a unset
+         left git src/.git/
+         left attribute export-ignore src/d/
+         fault read src
+         fault absent src/d/x.c",
     ),
-    ("src", "left git .git/", "left git src/.git/"),
-    ("src", "fault absent d/x.c", "fault absent src/d/x.c"),
-    ("../lib", "fault read .", "fault read ../lib"),
     (
         "../lib",
-        "file - lf 3 1 9 x.c",
-        "file - lf 3 1 9 ../lib/x.c",
+        "file - lf 3 1 9 x.c
+         left other d/x.c@
+         fault read .",
+        "file - lf 3 1 9 ../lib/x.c
+         left other ../lib/d/x.c@
+         fault read ../lib",
     ),
-    ("../lib", "left other d/x.c@", "left other ../lib/d/x.c@"),
     // the name of the directory `/`
-    ("", "fault read .", "fault read /"),
-    ("", "file auto crlf 3 1 9 x.c", "file auto crlf 3 1 9 /x.c"),
-    ("", "left include d/x.c", "left include /d/x.c"),
-    ("", "fault long d/.gitignore", "fault long /d/.gitignore"),
-    ("a//b", "fault read .", "fault read a//b"),
-    ("a//b", "file - lf 3 1 9 x.c", "file - lf 3 1 9 a//b/x.c"),
+    (
+        "",
+        "file auto crlf 3 1 9 x.c
+         left include d/x.c
+         fault read .
+         fault long d/.gitignore",
+        "file auto crlf 3 1 9 /x.c
+         left include /d/x.c
+         fault read /
+         fault long /d/.gitignore",
+    ),
     (
         "a//b",
-        "left filesystem d/x.c@/",
-        "left filesystem a//b/d/x.c@/",
+        "file - lf 3 1 9 x.c
+         left filesystem d/x.c@/
+         fault read .",
+        "file - lf 3 1 9 a//b/x.c
+         left filesystem a//b/d/x.c@/
+         fault read a//b",
     ),
     (".", "fault many d", "fault many ./d"),
     ("/usr", "file - nul 3 1 9 x.c", "file - nul 3 1 9 /usr/x.c"),
-    (
-        "src",
-        "left attribute export-ignore d/",
-        "left attribute export-ignore src/d/",
-    ),
 ];
 
 const RULES: &[Case] = &[
     (
         "src",
-        "left rule .gitignore:3 d/e/a.o",
-        "left rule src/.gitignore:3 src/d/e/a.o",
-    ),
-    (
-        "src",
-        "left rule d/e/.gitignore:3 d/e/a.o",
-        "left rule src/d/e/.gitignore:3 src/d/e/a.o",
-    ),
-    (
-        "src",
-        "left rule .git/info/exclude:3 d/e/a.o",
-        "left rule src/.git/info/exclude:3 src/d/e/a.o",
+        "left rule .gitignore:3 d/e/a.o
+         left rule d/e/.gitignore:3 d/e/b.o
+         left rule .git/info/exclude:3 d/e/c.o
+         left rule --exclude:3 d/e/d.o",
+        "left rule src/.gitignore:3 src/d/e/a.o
+         left rule src/d/e/.gitignore:3 src/d/e/b.o
+         left rule src/.git/info/exclude:3 src/d/e/c.o
+         left rule --exclude:3 src/d/e/d.o",
     ),
     (
         "../lib",
-        "left rule .gitignore:3 a.o",
-        "left rule ../lib/.gitignore:3 ../lib/a.o",
-    ),
-    (
-        "../lib",
-        "left rule d/e/.git/info/exclude:3 d/e/a.o",
-        "left rule ../lib/d/e/.git/info/exclude:3 ../lib/d/e/a.o",
+        "left rule .gitignore:3 a.o
+         left rule d/e/.git/info/exclude:3 d/e/a.o",
+        "left rule ../lib/.gitignore:3 ../lib/a.o
+         left rule ../lib/d/e/.git/info/exclude:3 ../lib/d/e/a.o",
     ),
     (
         "",
-        "left rule .gitignore:3 a.o",
-        "left rule /.gitignore:3 /a.o",
-    ),
-    (
-        "",
-        "left rule d/e/.gitignore:3 d/e/a.o",
-        "left rule /d/e/.gitignore:3 /d/e/a.o",
-    ),
-    (
-        "",
-        "left rule .git/info/exclude:3 a.o",
-        "left rule /.git/info/exclude:3 /a.o",
+        "left rule .gitignore:3 a.o
+         left rule .git/info/exclude:3 b.o
+         left rule --exclude-from:3 c.o
+         left rule d/e/.gitignore:3 d/e/a.o",
+        "left rule /.gitignore:3 /a.o
+         left rule /.git/info/exclude:3 /b.o
+         left rule --exclude-from:3 /c.o
+         left rule /d/e/.gitignore:3 /d/e/a.o",
     ),
     (
         "a//b",
-        "left rule .gitignore:3 a.o",
-        "left rule a//b/.gitignore:3 a//b/a.o",
-    ),
-    (
-        "a//b",
-        "left rule d/e/.git/info/exclude:3 d/e/a.o",
-        "left rule a//b/d/e/.git/info/exclude:3 a//b/d/e/a.o",
-    ),
-    (
-        "src",
-        "left rule --exclude:3 d/e/a.o",
-        "left rule --exclude:3 src/d/e/a.o",
-    ),
-    (
-        "",
-        "left rule --exclude-from:3 a.o",
-        "left rule --exclude-from:3 /a.o",
+        "left rule .gitignore:3 a.o
+         left rule d/e/.git/info/exclude:3 d/e/a.o",
+        "left rule a//b/.gitignore:3 a//b/a.o
+         left rule a//b/d/e/.git/info/exclude:3 a//b/d/e/a.o",
     ),
 ];
 
@@ -142,8 +128,10 @@ const WHOLE: Case = (
 fn check(rt: &impl Abort, alloc: Global, case: &Case) -> Result<(), AllocError> {
     let (name, lines, wanted) = *case;
     let report = named(alloc, name.as_bytes(), report_of(alloc, lines)?)?;
-    let found = report_text(alloc, &report)?;
-    assert!(rt; has_words(&found, wanted), "below {name}: {found}");
+    assert!(rt;
+        has_lines(alloc, &report, wanted)?,
+        "below {name}: {report:?}"
+    );
     Ok(())
 }
 

@@ -1,9 +1,7 @@
 //! A test of the report of several directories: each report gets its directory's name, and the reports are joined.
 
-use crate::reports::reading::report_of;
-use crate::reports::telling::report_text;
+use crate::reading::{has_lines, report_of};
 use lc_reports::{joined, named};
-use lc_tests::has_words;
 use std::process::Abort;
 use std::test::Fail;
 
@@ -53,7 +51,6 @@ fn several_directories_are_one_report(rt: HostRuntime) -> Result<(), Fail> {
         reports.push(named(rt.alloc(), name.as_bytes(), report)?)?;
     }
     let report = joined(rt.alloc(), reports)?;
-    let found = report_text(rt.alloc(), &report)?;
-    assert!(rt; has_words(&found, TOGETHER), "{found}");
+    assert!(rt; has_lines(rt.alloc(), &report, TOGETHER)?, "{report:?}");
     Ok(())
 }

@@ -1,119 +1,102 @@
 //! Tests of reports that are summed.
 
-use crate::sums::reading::{Text, parts_of};
-use crate::sums::texts::{BY_EOL, BY_EXT, FILES, NOTHING, SKIPPED};
+use crate::reading::has_lines;
+use crate::sums::texts::parts_of;
 use lc_reports::{Needs, SumFault, summed};
 use lc_sheet::Columns;
-use lc_walk::{Report, Sums};
 use std::alloc::{AllocError, Global};
 use std::process::Abort;
 use std::test::Fail;
 
-fn sums([files, lines, blank, bytes]: [u64; 4]) -> Sums {
-    Sums {
-        files,
-        lines: u128::from(lines),
-        blank: u128::from(blank),
-        bytes: u128::from(bytes),
-    }
-}
+/// A test case: the columns that were requested, whether files and skipped entries are needed, the reports, and the lines of their sum.
+type Case = (Option<Columns>, bool, bool, &'static str, &'static str);
 
-/// Sums reports, if they can be summed.
-fn sum_of(alloc: Global, needs: Needs, texts: &[Text]) -> Result<Option<Report>, AllocError> {
-    let parts = parts_of(alloc, texts)?;
-    match summed(alloc, parts, needs) {
-        Ok(sum) => Ok(Some(sum)),
+const CASES: &[Case] = &[
+    // lists of files are joined
+    (
+        Some(Columns::ALL),
+        true,
+        false,
+        "skipped files",
+        "row .c - lf 3 6 2 34
+         total 3 6 2 34
+         text 3 6 2 34
+         directories 2
+         entries 3
+         file - lf 2 1 10 a.c
+         file - lf 1 0 4 b.c
+         file - lf 3 1 20 src/b.c
+         no-left",
+    ),
+    // a list that is not needed is dropped
+    (
+        None,
+        false,
+        true,
+        "skipped",
+        "row .c - lf 1 1 0 4
+         total 1 1 0 4
+         text 1 1 0 4
+         directories 1
+         entries 3
+         no-files
+         left rule .gitignore:1 gen/",
+    ),
+    // one report has no line ends, so its row is another one
+    (
+        None,
+        false,
+        false,
+        "ext files",
+        "row .c - - 2 9 1 60
+         row .c - lf 2 5 2 30
+         no-text
+         no-eol
+         total 4 14 3 90
+         text 3 12 3 80
+         binary 1 2 0 10
+         directories 2
+         no-files
+         no-left
+         fault read ext",
+    ),
+    // no column is needed, and none is in both reports
+    (
+        Some(Columns::NONE),
+        false,
+        false,
+        "ext eol",
+        "row - - lf 3 4 0 20
+         row - - nul 1 1 0 8
+         row .c - - 2 9 1 60
+         no-ext
+         no-text
+         no-eol
+         total 6 14 1 88
+         text 4 11 1 70
+         binary 2 3 0 18
+         directories 3
+         no-files
+         no-left
+         fault read ext",
+    ),
+];
+
+/// Returns whether the sum of the case's reports has the lines of the case.
+fn is_summed(alloc: Global, case: &Case) -> Result<bool, AllocError> {
+    let (by, files, left_out, reports, wanted) = *case;
+    let needs = Needs::of(by, &[], files, left_out);
+    match summed(alloc, parts_of(alloc, reports)?, needs) {
+        Ok(sum) => has_lines(alloc, &sum, wanted),
         Err(SumFault::Memory) => Err(AllocError),
-        Err(_) => Ok(None),
+        Err(_) => Ok(false),
     }
 }
 
 #[test]
-fn reports_of_files_are_joined(rt: HostRuntime) -> Result<(), Fail> {
-    let needs = Needs::of(Some(Columns::ALL), &[], true, false);
-    let sum = sum_of(rt.alloc(), needs, &[("a", SKIPPED), ("b", FILES)])?;
-    let Some(sum) = sum else {
-        assert!(rt; false, "not summed");
-        return Ok(());
-    };
-    assert!(rt; sum.columns == Columns::ALL);
-    assert!(rt; sum.totals == sums([3, 6, 2, 34]));
-    assert!(rt;
-        sum.classes.text == sums([3, 6, 2, 34]) && sum.classes.binary == sums([0, 0, 0, 0])
-    );
-    assert!(rt; sum.rows.len() == 1 && sum.directories == 2);
-    assert!(rt; sum.lists.files && !sum.lists.left_out);
-    let [a, b, c] = sum.files.as_slice() else {
-        assert!(rt; false, "three files");
-        return Ok(());
-    };
-    assert!(rt; a.path.as_slice() == b"a.c".as_slice());
-    assert!(rt; b.path.as_slice() == b"b.c".as_slice());
-    assert!(rt; c.path.as_slice() == b"src/b.c".as_slice());
-    assert!(rt; sum.skipped.is_empty());
-    Ok(())
-}
-
-#[test]
-fn a_report_of_no_files_lists_all_of_them(rt: HostRuntime) -> Result<(), Fail> {
-    let needs = Needs::of(None, &[], true, false);
-    let sum = sum_of(rt.alloc(), needs, &[("a", NOTHING), ("b", FILES)])?;
-    let Some(sum) = sum else {
-        assert!(rt; false, "not summed");
-        return Ok(());
-    };
-    assert!(rt; sum.lists.files && sum.files.len() == 2);
-    Ok(())
-}
-
-#[test]
-fn lists_that_are_not_needed_are_dropped(rt: HostRuntime) -> Result<(), Fail> {
-    let needs = Needs::of(None, &[], false, true);
-    let sum = sum_of(rt.alloc(), needs, &[("a", SKIPPED)])?;
-    let Some(sum) = sum else {
-        assert!(rt; false, "not summed");
-        return Ok(());
-    };
-    assert!(rt; sum.files.is_empty() && !sum.lists.files);
-    assert!(rt; sum.skipped.len() == 1 && sum.lists.left_out);
-    assert!(rt; sum.entries == 3);
-    Ok(())
-}
-
-#[test]
-fn columns_of_some_reports_are_not_shared(rt: HostRuntime) -> Result<(), Fail> {
-    let needs = Needs::of(None, &[], false, false);
-    let sum = sum_of(rt.alloc(), needs, &[("a", BY_EXT), ("b", FILES)])?;
-    let Some(sum) = sum else {
-        assert!(rt; false, "not summed");
-        return Ok(());
-    };
-    let ext = Columns {
-        ext: true,
-        ..Columns::NONE
-    };
-    assert!(rt; sum.columns == ext);
-    assert!(rt; sum.totals == sums([4, 14, 3, 90]));
-    assert!(rt;
-        sum.classes.text == sums([3, 12, 3, 80]) && sum.classes.binary == sums([1, 2, 0, 10])
-    );
-    // One report has no line ends, so its row is another one.
-    assert!(rt; sum.rows.len() == 2 && sum.faults.len() == 1);
-    Ok(())
-}
-
-#[test]
-fn binary_files_are_summed_without_rows(rt: HostRuntime) -> Result<(), Fail> {
-    let by_nothing = Columns::NONE;
-    let needs = Needs::of(Some(by_nothing), &[], false, false);
-    let sum = sum_of(rt.alloc(), needs, &[("a", BY_EXT), ("b", BY_EOL)])?;
-    let Some(sum) = sum else {
-        assert!(rt; false, "not summed");
-        return Ok(());
-    };
-    assert!(rt; sum.columns == by_nothing);
-    assert!(rt;
-        sum.classes.text == sums([4, 11, 1, 70]) && sum.classes.binary == sums([2, 3, 0, 18])
-    );
+fn reports_are_summed(rt: HostRuntime) -> Result<(), Fail> {
+    for case in CASES {
+        assert!(rt; is_summed(rt.alloc(), case)?, "{}", case.4);
+    }
     Ok(())
 }

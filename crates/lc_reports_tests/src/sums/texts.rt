@@ -1,55 +1,86 @@
-//! Reports in JSON, for the tests of sums.
+//! Reports for the tests of sums, as lines of text.
+
+use crate::reading::report_of;
+use lc_reports::Part;
+use std::alloc::{AllocError, Global};
 
 /// A report with rows by extension, without lists of files and of skipped entries.
-pub(super) const BY_EXT: &str =
-    "{\"rows\":[{\"ext\":\".c\",\"files\":2,\"lines\":9,\"blank\":1,\"bytes\":60}],\
-    \"total\":{\"files\":2,\"lines\":9,\"blank\":1,\"bytes\":60},\
-    \"text\":{\"files\":1,\"lines\":7,\"blank\":1,\"bytes\":50},\
-    \"binary\":{\"files\":1,\"lines\":2,\"blank\":0,\"bytes\":10},\
-    \"directories\":1,\"faults\":[{\"word\":\"read\",\"path\":\"ext\"}]}";
+const BY_EXT: &str = "
+    row .c - - 2 9 1 60
+    no-text
+    no-eol
+    total 2 9 1 60
+    text 1 7 1 50
+    binary 1 2 0 10
+    directories 1
+    no-files
+    no-left
+    fault read ext";
 
 /// A report with rows by line ends, without lists of files and of skipped entries.
-pub(super) const BY_EOL: &str =
-    "{\"rows\":[{\"eol\":\"lf\",\"files\":3,\"lines\":4,\"blank\":0,\"bytes\":20},\
-    {\"eol\":\"nul\",\"files\":1,\"lines\":1,\"blank\":0,\"bytes\":8}],\
-    \"total\":{\"files\":4,\"lines\":5,\"blank\":0,\"bytes\":28},\
-    \"text\":{\"files\":3,\"lines\":4,\"blank\":0,\"bytes\":20},\
-    \"binary\":{\"files\":1,\"lines\":1,\"blank\":0,\"bytes\":8},\
-    \"directories\":2,\"faults\":[]}";
+const BY_EOL: &str = "
+    row - - lf 3 4 0 20
+    row - - nul 1 1 0 8
+    no-ext
+    no-text
+    total 4 5 0 28
+    text 3 4 0 20
+    binary 1 1 0 8
+    directories 2
+    no-files
+    no-left";
 
 /// A report that lists its files, with rows by all columns.
-pub(super) const FILES: &str =
-    "{\"rows\":[{\"ext\":\".c\",\"text\":null,\"eol\":\"lf\",\"files\":2,\"lines\":5,\"blank\":2,\"bytes\":30}],\
-    \"total\":{\"files\":2,\"lines\":5,\"blank\":2,\"bytes\":30},\
-    \"text\":{\"files\":2,\"lines\":5,\"blank\":2,\"bytes\":30},\
-    \"binary\":{\"files\":0,\"lines\":0,\"blank\":0,\"bytes\":0},\
-    \"directories\":1,\
-    \"files\":[{\"path\":\"a.c\",\"text\":null,\"eol\":\"lf\",\"lines\":2,\"blank\":1,\"bytes\":10},\
-    {\"path\":\"src/b.c\",\"text\":null,\"eol\":\"lf\",\"lines\":3,\"blank\":1,\"bytes\":20}],\
-    \"faults\":[]}";
+const FILES: &str = "
+    row .c - lf 2 5 2 30
+    total 2 5 2 30
+    text 2 5 2 30
+    directories 1
+    file - lf 2 1 10 a.c
+    file - lf 3 1 20 src/b.c
+    no-left";
 
-/// A report that lists a file and a skipped entry, with rows by extension.
-pub(super) const SKIPPED: &str =
-    "{\"rows\":[{\"ext\":\".c\",\"files\":1,\"lines\":1,\"blank\":0,\"bytes\":4}],\
-    \"total\":{\"files\":1,\"lines\":1,\"blank\":0,\"bytes\":4},\
-    \"text\":{\"files\":1,\"lines\":1,\"blank\":0,\"bytes\":4},\
-    \"binary\":{\"files\":0,\"lines\":0,\"blank\":0,\"bytes\":0},\
-    \"directories\":1,\"entries\":3,\
-    \"files\":[{\"path\":\"b.c\",\"text\":null,\"eol\":\"lf\",\"lines\":1,\"blank\":0,\"bytes\":4}],\
-    \"left\":[{\"path\":\"gen\",\"kind\":\"dir\",\"reason\":\"rule\",\"file\":\".gitignore\",\"line\":1}],\
-    \"faults\":[]}";
-
-/// A report that counts no files, without lists of files and of skipped entries.
-pub(super) const NOTHING: &str = "{\"rows\":[],\
-    \"total\":{\"files\":0,\"lines\":0,\"blank\":0,\"bytes\":0},\
-    \"text\":{\"files\":0,\"lines\":0,\"blank\":0,\"bytes\":0},\
-    \"binary\":{\"files\":0,\"lines\":0,\"blank\":0,\"bytes\":0},\
-    \"directories\":1,\"faults\":[]}";
+/// A report that lists a file and a skipped entry, with rows by all columns.
+const SKIPPED: &str = "
+    row .c - lf 1 1 0 4
+    total 1 1 0 4
+    text 1 1 0 4
+    directories 1
+    entries 3
+    file - lf 1 0 4 b.c
+    left rule .gitignore:1 gen/";
 
 /// A report that counts as many files as a report can.
-pub(super) const LARGEST: &str =
-    "{\"rows\":[{\"ext\":\".c\",\"files\":18446744073709551615,\"lines\":0,\"blank\":0,\"bytes\":0}],\
-    \"total\":{\"files\":18446744073709551615,\"lines\":0,\"blank\":0,\"bytes\":0},\
-    \"text\":{\"files\":18446744073709551615,\"lines\":0,\"blank\":0,\"bytes\":0},\
-    \"binary\":{\"files\":0,\"lines\":0,\"blank\":0,\"bytes\":0},\
-    \"directories\":1,\"faults\":[]}";
+const LARGEST: &str = "
+    row .c - - max 0 0 0
+    no-text
+    no-eol
+    total max 0 0 0
+    text max 0 0 0
+    directories 1
+    no-files
+    no-left";
+
+/// Returns the lines of the report that a word names.
+fn lines_of(word: &str) -> &'static str {
+    match word {
+        "ext" => BY_EXT,
+        "eol" => BY_EOL,
+        "files" => FILES,
+        "skipped" => SKIPPED,
+        "largest" => LARGEST,
+        _ => "",
+    }
+}
+
+const ORIGINS: [&str; 4] = ["a", "b", "c", "d"];
+
+/// Makes the reports that these words name. The first report is `a`, the next one `b`.
+pub(super) fn parts_of(alloc: Global, words: &str) -> Result<Vec<Part<'static>>, AllocError> {
+    let mut parts = Vec::new(alloc);
+    for (word, origin) in words.split_ascii_whitespace().zip(ORIGINS) {
+        let report = report_of(alloc, lines_of(word))?;
+        parts.push(Part { origin, report })?;
+    }
+    Ok(parts)
+}

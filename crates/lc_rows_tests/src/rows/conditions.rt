@@ -1,48 +1,22 @@
 //! The part of a report that meets conditions: its files, rows and sums.
 
-ghost use Rattle.std.specs.Prelude.{◌≡◌, true, IfOk};
-
-use crate::rows::files::{File, NONE, file_lines};
+use crate::rows::files::{NONE, report_of};
 use lc_census::Eol;
-use lc_rows::{keep, name_of};
+use lc_rows::keep;
 use lc_rules::TextState;
 use lc_sheet::{Column, Comparison, Condition, Key, Number, Test};
-use lc_walk::{FileLine, Findings, Report, ReportLists, Tally, extension};
+use lc_tests::{File, file_lines};
+use lc_walk::FileLine;
 use std::alloc::{AllocError, Global};
 use std::process::Abort;
 use std::test::Fail;
 
-const FILES: &[File] = &[
+const FILES: &[File<'static>] = &[
     (b"Makefile", NONE, Eol::Lf, [4, 1, 9]),
     (b"picture.png", TextState::Unset, Eol::Nul, [2, 0, 900]),
     (b"src/main.c", TextState::Set, Eol::CrLf, [7, 0, 50]),
     (b"test/rows.c", NONE, Eol::Lf, [3, 1, 15]),
 ];
-
-/// Makes a report that lists these files.
-pub(super) fn report_of(alloc: Global, files: Vec<FileLine>) -> Result<Report, AllocError>
-    ensures { IfOk result (λ report. report.lists.files ≡ true) }
-{
-    let mut tally = Tally::new(alloc);
-    for file in &files {
-        if tally.totals().files >= 512 {
-            return Err(AllocError);
-        }
-        tally.add(extension(name_of(&file.path)), file.text(), file.count)?;
-    }
-    let lists = ReportLists {
-        files: true,
-        left_out: false,
-    };
-    let findings = Findings {
-        directories: 3,
-        entries: 6,
-        files,
-        faults: Vec::new(alloc),
-        skipped: Vec::new(alloc),
-    };
-    Ok(Report::new(tally, lists, findings))
-}
 
 fn push_files(text: &mut String, files: &[FileLine]) -> Result<(), AllocError> {
     for file in files {

@@ -1,25 +1,25 @@
-//! The sheet of a report: the values of lines of each kind, in the order of the columns.
+//! The sheet of a report.
 
 ghost use Rattle.std.specs.Prelude.{◌≡◌, true, IfOk};
 
-use crate::rows::files::{BY_DIRECTORY, File, NONE, file_lines, sums};
+use crate::rows::files::{BY_DIRECTORY, NONE, report_of};
 use lc_census::Eol;
+use lc_formats::text;
 use lc_level::{FaultWord, Reason};
-use lc_rows::{ReportSheet, Shown};
+use lc_rows::Shown;
 use lc_rules::{RuleSource, TextState};
-use lc_sheet::{Columns, Format, Lines, Number, Output, Section, TableOptions, Value, flag_word};
-use lc_text::push_name;
+use lc_sheet::{Format, Number, Output, TableOptions};
+use lc_tests::{File, file_lines};
 use lc_tree::Kind;
-use lc_walk::{ClassSums, FaultLine, Report, ReportLists, SkippedLine};
+use lc_walk::{FaultLine, Report, SkippedLine};
 use std::alloc::{AllocError, Global};
-use std::io::Write;
 use std::process::Abort;
 use std::test::Fail;
 
-const FILES: &[File] = &[
+const FILES: &[File<'static>] = &[
     (b"Makefile", NONE, Eol::Lf, [4, 1, 9]),
     (b"src/main.c", TextState::Set, Eol::Lf, [7, 0, 50]),
-    (b"test/rows.c", NONE, Eol::Lf, [3, 1, 15]),
+    (b"test/rows.c", NONE, Eol::Nul, [3, 1, 15]),
 ];
 
 const TSV: TableOptions = TableOptions {
@@ -31,44 +31,45 @@ const TSV: TableOptions = TableOptions {
     share: false,
 };
 
-const LISTED: &str = ". * * * 1 4 1 9 
-src * * * 1 7 0 50 
-
-others * * * 1 3 1 15 
-
-total * * * 3 14 2 74 
-text * * * 2 11 1 59 
-binary * * * 1 3 1 15 
-
-- lf 4 1 9 Makefile 
-set lf 7 0 50 src/main.c 
-
-rule src/.gitignore:3 src/gen/ 
-
-read src/locked 
-
+const LISTED: &[u8] = b"dir\text\ttext\teol\tfiles\tlines\tblank\tbytes
+.\t*\t*\t*\t1\t4\t1\t9
+src\t*\t*\t*\t1\t7\t0\t50
+others\t*\t*\t*\t1\t3\t1\t15
+total\t*\t*\t*\t3\t14\t2\t74
+directories\t3
+entries\t6
+file\t-\tlf\t4\t1\t9\tMakefile
+file\tset\tlf\t7\t0\t50\tsrc/main.c
+left\trule\tsrc/.gitignore:3\tsrc/gen/
+fault\tread\tsrc/locked
 ";
 
-const SHARED: &str = "src 1 7 0 50 7/14 7/7 
-. 1 4 1 9 4/14 4/7 
+const SHARED: &str = "left out  by                path
+rule      src/.gitignore:3  src/gen/
 
-others 1 3 1 15 3/14 ! 
+fault  path
+read   src/locked
 
-total 3 14 2 74 14/14 ! 
-text 2 11 1 59 11/14 ! 
-binary 1 3 1 15 3/14 ! 
+dir     files  lines  blank  bytes   share
+----------------------------------------------------------------
+src         1      7      0     50   50.0%  ████████████████████
+.           1      4      1      9   28.6%  ███████████▍
+others      1      3      1     15   21.4%
+----------------------------------------------------------------
+total       3     14      2     74  100.0%
+text        2     11      1     59   78.6%
+binary      1      3      1     15   21.4%
 
-rule src/.gitignore:3 src/gen/ 
-
-read src/locked 
-
+directories  3
+entries      6
 ";
 
 fn report(alloc: Global) -> Result<Report, AllocError>
     ensures { IfOk result (λ report. report.lists.files ≡ true) }
 {
-    let mut skipped = Vec::new(alloc);
-    skipped.push(SkippedLine {
+    let mut report = report_of(alloc, file_lines(alloc, FILES)?)?;
+    report.lists.left_out = true;
+    report.skipped.push(SkippedLine {
         path: b"src/gen".to_vec(alloc)?,
         kind: Kind::Dir,
         reason: Reason::Rule {
@@ -76,109 +77,22 @@ fn report(alloc: Global) -> Result<Report, AllocError>
             line: 3,
         },
     })?;
-    let mut faults = Vec::new(alloc);
-    faults.push(FaultLine {
+    report.faults.push(FaultLine {
         path: b"src/locked".to_vec(alloc)?,
         word: FaultWord::Read,
     })?;
-    Ok(Report {
-        rows: Vec::new(alloc),
-        columns: Columns::ALL,
-        totals: sums([3, 14, 2, 74]),
-        classes: ClassSums {
-            text: sums([2, 11, 1, 59]),
-            binary: sums([1, 3, 1, 15]),
-        },
-        directories: 3,
-        entries: 6,
-        lists: ReportLists {
-            files: true,
-            left_out: true,
-        },
-        files: file_lines(alloc, FILES)?,
-        faults,
-        skipped,
-    })
-}
-
-fn push_value(text: &mut Vec<u8>, value: Value<'_>) -> Result<(), AllocError> {
-    match value {
-        Value::Missing => text.extend_from_slice(b"-"),
-        Value::Summed => text.extend_from_slice(b"*"),
-        Value::Blank => text.extend_from_slice(b"!"),
-        Value::Word(word) => text.extend_from_slice(word.as_bytes()),
-        Value::Flag(is_set) => text.extend_from_slice(flag_word(is_set).as_bytes()),
-        Value::Name(name) => push_name(text, name),
-        Value::Path(path) => text.extend_from_slice(path),
-        Value::Number(number) => write!(text, "{number}").map_err(|_| AllocError),
-        Value::Share { part, whole } | Value::Bar { part, whole } => {
-            write!(text, "{part}/{whole}").map_err(|_| AllocError)
-        }
-        Value::Difference { old, new } => write!(text, "{old}>{new}").map_err(|_| AllocError),
-        Value::Growth { old, new } => write!(text, "{old}%{new}").map_err(|_| AllocError),
-    }
-}
-
-pub(super) fn push_section<L: Lines>(
-    text: &mut Vec<u8>,
-    section: &Section<'_, L>,
-) -> Result<(), AllocError> {
-    let (form, columns, lines) = section.parts();
-    for line in lines {
-        for column in columns {
-            push_value(text, L::value(line, form, *column))?;
-            text.extend_from_slice(b" ")?;
-        }
-        text.extend_from_slice(b"\n")?;
-    }
-    text.extend_from_slice(b"\n")
-}
-
-fn push_sheet(text: &mut Vec<u8>, sheet: &ReportSheet<'_>) -> Result<(), AllocError> {
-    push_section(text, &sheet.rows)?;
-    push_section(text, &sheet.others)?;
-    push_section(text, &sheet.totals)?;
-    if let Some(files) = &sheet.files {
-        push_section(text, files)?;
-    }
-    if let Some(skipped) = &sheet.skipped {
-        push_section(text, skipped)?;
-    }
-    if let Some(faults) = &sheet.faults {
-        push_section(text, faults)?;
-    }
-    Ok(())
+    Ok(report)
 }
 
 fn text_of(alloc: Global, options: &TableOptions) -> Result<Vec<u8>, AllocError> {
     let report = report(alloc)?;
     let shown = Shown::of(alloc, &report, options, &[])?;
-    let mut text = Vec::new(alloc);
-    push_sheet(&mut text, &shown.sheet())?;
-    Ok(text)
+    text(alloc, options.output.sheet_format(), &shown.sheet())
 }
 
 #[test]
 fn the_values_of_lines(rt: HostRuntime) -> Result<(), Fail> {
-    let text = text_of(rt.alloc(), &TSV)?;
-    assert!(rt; text.as_slice() == LISTED.as_bytes());
-    Ok(())
-}
-
-/// Returns whether a sheet shows the sums over text and over binary files, if its report has this many files in each class.
-fn shows_classes(alloc: Global, text: u64, binary: u64) -> Result<bool, AllocError> {
-    let mut report = report(alloc)?;
-    report.classes = ClassSums {
-        text: sums([text, 11, 1, 59]),
-        binary: sums([binary, 3, 1, 15]),
-    };
-    let shown = Shown::of(alloc, &report, &TSV, &[])?;
-    Ok(shown.sheet().some_binary)
-}
-
-#[test]
-fn sums_over_binary_files_are_shown_if_there_are_any(rt: HostRuntime) -> Result<(), Fail> {
-    assert!(rt; shows_classes(rt.alloc(), 2, 1)? && !shows_classes(rt.alloc(), 3, 0)?);
+    assert!(rt; text_of(rt.alloc(), &TSV)?.as_slice() == LISTED);
     Ok(())
 }
 

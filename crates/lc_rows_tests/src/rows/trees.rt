@@ -1,13 +1,14 @@
 //! The rows of a tree of directories.
 
-use crate::rows::files::{BY_DIRECTORY, File, NONE, Row, are_rows, file_lines};
+use crate::rows::files::{BY_DIRECTORY, NAMED, NONE, Row, are_rows};
 use lc_census::Eol;
 use lc_rows::tree_rows;
 use lc_sheet::Columns;
+use lc_tests::{File, file_lines};
 use std::process::Abort;
 use std::test::Fail;
 
-const FILES: &[File] = &[
+const FILES: &[File<'static>] = &[
     (b"Makefile", NONE, Eol::Lf, [4, 1, 9]),
     (b"src-old/main.c", NONE, Eol::Lf, [3, 1, 15]),
     (b"src/main.c", NONE, Eol::Lf, [7, 0, 50]),
@@ -30,22 +31,12 @@ const FIRST_DIRECTORIES: &[Row] = &[
     (b"src-old", None, Eol::NoEnd, [1, 3, 1, 15]),
 ];
 
-/// Files of several directories that were named on one command line.
-const NAMED: &[File] = &[
-    (b"../lib/a/b.c", NONE, Eol::Lf, [1, 0, 2]),
-    (b"../x.c", NONE, Eol::Lf, [2, 0, 3]),
-    (b"./src/m.c", NONE, Eol::Lf, [3, 0, 4]),
-    (b"/usr/include/x.h", NONE, Eol::Lf, [4, 0, 5]),
-    (b"/x.h", NONE, Eol::Lf, [5, 0, 6]),
-    (b"x.c", NONE, Eol::Lf, [6, 0, 7]),
-];
-
 const NAMED_DIRECTORIES: &[Row] = &[
-    (b"", None, Eol::NoEnd, [6, 21, 0, 27]),
-    (b"/", None, Eol::NoEnd, [1, 5, 0, 6]),
-    (b"/usr", None, Eol::NoEnd, [1, 4, 0, 5]),
-    (b"/usr/include", None, Eol::NoEnd, [1, 4, 0, 5]),
-    (b"./src", None, Eol::NoEnd, [1, 3, 0, 4]),
+    (b"", None, Eol::NoEnd, [7, 28, 0, 35]),
+    (b"/", None, Eol::NoEnd, [1, 6, 0, 7]),
+    (b"/usr", None, Eol::NoEnd, [1, 5, 0, 6]),
+    (b"/usr/include", None, Eol::NoEnd, [1, 5, 0, 6]),
+    (b"./src", None, Eol::NoEnd, [1, 4, 0, 5]),
     (b"..", None, Eol::NoEnd, [1, 2, 0, 3]),
     (b"../lib", None, Eol::NoEnd, [1, 1, 0, 2]),
     (b"../lib/a", None, Eol::NoEnd, [1, 1, 0, 2]),
@@ -64,7 +55,7 @@ const EXTENSIONS: &[Row] = &[
 ];
 
 /// Three files: two are in one directory, and one is in the directory above it.
-const DEEP: &[File] = &[
+const DEEP: &[File<'static>] = &[
     (b"a/b/c/m.rs", NONE, Eol::Lf, [4, 1, 9]),
     (b"a/b/c/n.rs", NONE, Eol::Lf, [3, 1, 15]),
     (b"a/b/x.rs", NONE, Eol::Lf, [7, 0, 50]),
@@ -77,46 +68,26 @@ const DEEP_DIRECTORIES: &[Row] = &[
     (b"a/b/c", None, Eol::NoEnd, [2, 7, 2, 24]),
 ];
 
+const WITH_EXTENSIONS: Columns = Columns {
+    ext: true,
+    ..BY_DIRECTORY
+};
+
+/// Files, the columns and the depth of a tree, and the rows of the tree.
+const CASES: &[(&[File], Columns, u32, &[Row])] = &[
+    (FILES, BY_DIRECTORY, 256, DIRECTORIES),
+    (FILES, WITH_EXTENSIONS, 256, EXTENSIONS),
+    (FILES, BY_DIRECTORY, 1, FIRST_DIRECTORIES),
+    (NAMED, BY_DIRECTORY, 256, NAMED_DIRECTORIES),
+    (DEEP, BY_DIRECTORY, 256, DEEP_DIRECTORIES),
+];
+
 #[test]
 fn directories_and_what_is_below_them(rt: HostRuntime) -> Result<(), Fail> {
-    let files = file_lines(rt.alloc(), FILES)?;
-    let rows = tree_rows(rt.alloc(), &files, BY_DIRECTORY, 256)?;
-    assert!(rt; are_rows(&rows, DIRECTORIES));
-    Ok(())
-}
-
-#[test]
-fn extensions_of_directories(rt: HostRuntime) -> Result<(), Fail> {
-    let files = file_lines(rt.alloc(), FILES)?;
-    let by = Columns {
-        ext: true,
-        ..BY_DIRECTORY
-    };
-    let rows = tree_rows(rt.alloc(), &files, by, 256)?;
-    assert!(rt; are_rows(&rows, EXTENSIONS));
-    Ok(())
-}
-
-#[test]
-fn directories_that_are_cut(rt: HostRuntime) -> Result<(), Fail> {
-    let files = file_lines(rt.alloc(), FILES)?;
-    let rows = tree_rows(rt.alloc(), &files, BY_DIRECTORY, 1)?;
-    assert!(rt; are_rows(&rows, FIRST_DIRECTORIES));
-    Ok(())
-}
-
-#[test]
-fn directories_that_were_named(rt: HostRuntime) -> Result<(), Fail> {
-    let files = file_lines(rt.alloc(), NAMED)?;
-    let rows = tree_rows(rt.alloc(), &files, BY_DIRECTORY, 256)?;
-    assert!(rt; are_rows(&rows, NAMED_DIRECTORIES));
-    Ok(())
-}
-
-#[test]
-fn files_of_one_directory(rt: HostRuntime) -> Result<(), Fail> {
-    let files = file_lines(rt.alloc(), DEEP)?;
-    let rows = tree_rows(rt.alloc(), &files, BY_DIRECTORY, 256)?;
-    assert!(rt; are_rows(&rows, DEEP_DIRECTORIES));
+    for (files, by, depth, rows) in CASES {
+        let files = file_lines(rt.alloc(), files)?;
+        let found = tree_rows(rt.alloc(), &files, *by, *depth)?;
+        assert!(rt; are_rows(&found, rows), "{by:?} {depth}");
+    }
     Ok(())
 }

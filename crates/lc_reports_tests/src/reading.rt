@@ -1,4 +1,4 @@
-//! Making reports from lines of text.
+//! Making reports from lines of text, and comparing reports with such lines.
 
 use lc_census::Count;
 use lc_level::{AttributeState, FaultWord, FileAttributes, Reason};
@@ -24,12 +24,19 @@ fn next<'a>(words: &mut SplitAsciiWhitespace<'a>) -> &'a str {
     words.next().unwrap_or("-")
 }
 
+/// Returns the number that a word means. The word `max` means the largest number.
 fn small_number(words: &mut SplitAsciiWhitespace<'_>) -> u64 {
-    next(words).parse::<u64>().unwrap_or(0)
+    match next(words) {
+        "max" => u64::MAX,
+        word => word.parse::<u64>().unwrap_or(0),
+    }
 }
 
 fn number(words: &mut SplitAsciiWhitespace<'_>) -> u128 {
-    next(words).parse::<u128>().unwrap_or(0)
+    match next(words) {
+        "max" => u128::MAX,
+        word => word.parse::<u128>().unwrap_or(0),
+    }
 }
 
 /// Returns the path that a word means. A dot means the empty path of the top.
@@ -218,7 +225,7 @@ fn put_line(alloc: Global, report: &mut Report, line: &str) -> Result<(), AllocE
     Ok(())
 }
 
-/// Returns the report of these lines. A number that no line names is 0, and each list is present:
+/// Returns the report of these lines. A number that no line names is 0, the number `max` is the largest, and each list is present:
 ///
 /// | Line | What the report has |
 /// |---|---|
@@ -247,4 +254,11 @@ pub(super) fn reports_of(alloc: Global, texts: &[&str]) -> Result<Vec<Report>, A
         reports.push(report_of(alloc, text)?)?;
     }
     Ok(reports)
+}
+
+/// Returns whether the report has exactly these lines.
+pub(super) fn has_lines(alloc: Global, report: &Report, lines: &str) -> Result<bool, AllocError> {
+    let wanted = report_of(alloc, lines)?;
+    let found = format!(in alloc; "{report:?}")?;
+    Ok(found == format!(in alloc; "{wanted:?}")?)
 }
