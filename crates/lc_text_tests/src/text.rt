@@ -6,5 +6,4 @@ mod interrupted;
 mod paths;
 mod places;
 mod quoting;
-mod styles;
 mod visible;

@@ -2,7 +2,7 @@
 //! prefix of the text was written.
 
 use crate::checks::BY_LINES;
-use crate::long_lines::{expected, long_pattern, repeated};
+use crate::outputs::{expected, long_pattern, repeated, written};
 use lc_io::{Failed, Sink};
 use lc_level::read_rule_text;
 use lc_paths::{CheckFault, check_explained};
@@ -70,12 +70,7 @@ fn stops_there<R: AllocGlobal + Abort>(
         assert!(rt; text.starts_with(&out.taken));
         return Err(AllocError);
     }
-    let wanted = if room == text.len() {
-        Ok(())
-    } else {
-        Err(CheckFault::Write)
-    };
-    Ok(answer == wanted && text.get(..room) == Some(out.taken.as_slice()))
+    Ok(answer == written((), text, room) && text.get(..room) == Some(out.taken.as_slice()))
 }
 
 /// The numbers of bytes that a writer has room for: they end in the first block, at its end, in the second, in the last and at the end of

@@ -13,13 +13,6 @@ type Case = (&'static str, &'static [u8], &'static [u8], &'static [u8]);
 /// Cases with a file of rules that is called `f`. The lines and the rules are those that `git check-ignore -v -n` (2.39) names.
 const CASES: &[Case] = &[
     (
-        "each_word",
-        b"*.log\n!keep.log\n/build/\n",
-        b"a.log\nbuild/x.c\nm.c\nkeep.log\n./z\n",
-        b"ignored\tf:1\t*.log\ta.log\nbelow\tf:3\t/build/\tbuild/x.c\nnone\t-\t-\tm.c\n\
-          included\tf:2\t!keep.log\tkeep.log\nbad\t-\t-\t./z\n",
-    ),
-    (
         "the_highest_directory",
         b"c/\nb/\n/a/b/\n!a/b/c/d\n",
         b"a/b/c/d\na/b/c/e\na/c/d\na/b/\n",
@@ -68,13 +61,6 @@ const CASES: &[Case] = &[
         b"below\tf:3\t**/c/**\tx/b/y/c/z/w\nignored\tf:3\t**/c/**\tx/ab/c/d\nbelow\tf:3\t**/c/**\tx/c/y/z\n",
     ),
     ("no_paths", b"*\n", b"", b""),
-    ("no_rules", b"", b"a\nb", b"none\t-\t-\ta\nnone\t-\t-\tb\n"),
-    (
-        "each_line_counts",
-        b"# a\n\na\n[\nb",
-        b"a\nb\n",
-        b"ignored\tf:3\ta\ta\nignored\tf:5\tb\tb\n",
-    ),
     (
         "returns_and_spaces_at_the_end",
         b"a\r\nb  \r\nc\\ \\  \r\nd\r\r\n",
@@ -93,22 +79,8 @@ const CASES: &[Case] = &[
         b"#a\n!b\n!c\n",
         b"ignored\tf:1\t\\\\#a\t#a\nignored\tf:2\t\\\\!b\t!b\nincluded\tf:3\t!!c\t!c\n",
     ),
-    (
-        "control_bytes_are_escaped",
-        b"a\t*\n",
-        b"a\tb\x7f\n",
-        b"ignored\tf:1\ta\\x09*\ta\\x09b\\x7f\n",
-    ),
     ("a_dash", b"-\n", b"-\n", b"ignored\tf:1\t-\t-\n"),
 ];
-
-/// Cases with a file of rules whose name has bytes that are escaped.
-const NAMED: &[Case] = &[(
-    "an_escaped_name",
-    b"a",
-    b"a",
-    b"ignored\t..\\\\x\\x0a:1/\xff:1\ta\ta\n",
-)];
 
 fn read_rules(alloc: Global, mut file: &[u8]) -> Result<RuleText, AllocError> {
     match read_rule_text(alloc, &mut file) {
@@ -146,27 +118,13 @@ fn compare<R: Abort + AllocGlobal>(
     Ok(())
 }
 
-#[test]
-fn rules_and_lines_are_named(rt: HostRuntime) -> Result<(), Fail> {
-    compare(&rt, b"f", BY_LINES, CASES)
-}
-
-static ENDED_BY_NUL: [Case; 1] = [(
+/// Cases with paths that each end with a NUL byte.
+const ENDED_BY_NUL: &[Case] = &[(
     "a path with a line feed",
     b"a*\n",
     b"a\nb\0c\0",
     b"ignored\tf:1\ta*\ta\\x0ab\nnone\t-\t-\tc\n",
 )];
-
-#[test]
-fn paths_may_end_with_nul(rt: HostRuntime) -> Result<(), Fail> {
-    compare(&rt, b"f", BY_NUL, &ENDED_BY_NUL)
-}
-
-#[test]
-fn a_name_is_escaped(rt: HostRuntime) -> Result<(), Fail> {
-    compare(&rt, b"..\\x\n:1/\xff", BY_LINES, NAMED)
-}
 
 /// Cases with a file of rules that has a right-to-left override in its name, and text as a terminal shows it.
 const SHOWN: &[Case] = &[(
@@ -177,6 +135,8 @@ const SHOWN: &[Case] = &[(
 )];
 
 #[test]
-fn a_terminal_is_shown_visible_lines(rt: HostRuntime) -> Result<(), Fail> {
+fn rules_and_lines_are_named(rt: HostRuntime) -> Result<(), Fail> {
+    compare(&rt, b"f", BY_LINES, CASES)?;
+    compare(&rt, b"f", BY_NUL, ENDED_BY_NUL)?;
     compare(&rt, b"\xe2\x80\xaef", SHOWN_BY_LINES, SHOWN)
 }

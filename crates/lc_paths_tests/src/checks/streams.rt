@@ -2,6 +2,7 @@
 //! the expected text, and the whole text only if it succeeds.
 
 use crate::checks::BY_LINES;
+use crate::outputs::written;
 use lc_io::Source;
 use lc_level::read_rule_text;
 use lc_paths::{CheckFault, check, check_explained, check_joined};
@@ -89,12 +90,7 @@ fn stops_there<R: AllocGlobal + Abort>(
 ) -> Result<bool, AllocError> {
     let mut out = Narrow::new(rt.alloc(), step, room, when_full)?;
     let answer = checked(rt, rt.alloc(), *form, &mut Bytewise(*bytes), &mut out)?;
-    let expected = if room == text.len() {
-        Ok(())
-    } else {
-        Err(CheckFault::Write)
-    };
-    Ok(answer == expected && text.get(..room) == Some(out.taken.as_slice()))
+    Ok(answer == written((), text, room) && text.get(..room) == Some(out.taken.as_slice()))
 }
 
 fn compare_writes<R: AllocGlobal + Abort>(
@@ -118,7 +114,7 @@ fn writes_stop_at_every_place(rt: HostRuntime) -> Result<(), Fail> {
     Ok(())
 }
 
-/// Returns whether the check of an input whose read fails reports this error, and writes nothing.
+/// Returns whether a check returns `CheckFault::Read`, and writes nothing. A read of its input must fail.
 fn fails_to_read<R: AllocGlobal + Abort, S: Source>(
     rt: &R,
     form: Form,

@@ -31,7 +31,6 @@ const RULES: &[Case] = &[
         b"*.o\n!k.o\nd/\n--\na.o\nk.o\nd/\nd\nd/x\nz\n",
         b"ignored\ta.o\nincluded\tk.o\nignored\td/\nnone\td\nbelow\td/x\nnone\tz\n",
     ),
-    ("a_bracket", b"[a]\n--\na", b"ignored\ta\n"),
     (
         "quoted_marks_classes_and_slashes",
         b"\\#a\n\\!b\n[[:upper:]]?\np\\/q\n--\n#a\n!b\nQ1\nq1\np/q\nx/p/q\n",
@@ -88,8 +87,6 @@ const RUNS: &[Case] = &[
     ),
 ];
 
-const TABLES: &[&[Case]] = &[RULES, LINES, RUNS];
-
 /// Returns whether the check of rules and paths, joined in one input, writes this text in this format.
 fn has_text(
     alloc: Global,
@@ -108,14 +105,6 @@ fn has_text(
 fn compare<R: Abort + AllocGlobal>(rt: &R, format: PathFormat, cases: &[Case]) -> Result<(), Fail> {
     for (name, joined, text) in cases {
         assert!(rt; has_text(rt.alloc(), format, joined, text)?, "{name}");
-    }
-    Ok(())
-}
-
-#[test]
-fn texts_of_checks(rt: HostRuntime) -> Result<(), Fail> {
-    for cases in TABLES {
-        compare(&rt, BY_LINES, cases)?;
     }
     Ok(())
 }
@@ -139,11 +128,6 @@ const SHOWN: &[Case] = &[
     ),
 ];
 
-#[test]
-fn texts_for_a_terminal(rt: HostRuntime) -> Result<(), Fail> {
-    compare(&rt, SHOWN_BY_LINES, SHOWN)
-}
-
 /// Cases with rules in lines, and with paths that each end with a NUL byte, which the last may lack.
 const ENDED_BY_NUL: &[Case] = &[
     (
@@ -155,7 +139,11 @@ const ENDED_BY_NUL: &[Case] = &[
 ];
 
 #[test]
-fn texts_of_paths_that_end_with_nul(rt: HostRuntime) -> Result<(), Fail> {
+fn texts_of_checks(rt: HostRuntime) -> Result<(), Fail> {
+    for cases in [RULES, LINES, RUNS] {
+        compare(&rt, BY_LINES, cases)?;
+    }
+    compare(&rt, SHOWN_BY_LINES, SHOWN)?;
     compare(&rt, BY_NUL, ENDED_BY_NUL)
 }
 

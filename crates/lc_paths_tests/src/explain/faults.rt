@@ -1,36 +1,18 @@
 //! Tests with an unreadable directory above a path, and with trees in which one call fails, such as a listing or a read.
 
-use crate::explain::asking::{Case, check, for_a_pipe, plainly};
-use lc_level::Filters;
-use lc_paths::Outcome;
-use lc_tests::Sketch;
+use crate::explain::asking::{Case, check, plainly};
+use lc_paths::{Outcome, PathStyle};
+use lc_tests::tree;
 use lc_tests::trees::{FailingCall, FailingTree};
 use lc_tests::writers::{Narrow, WhenFull};
 use lc_tree::MemTree;
 use std::process::Abort;
 use std::test::Fail;
 
-const LINE: Sketch = Sketch::File(b"x\n");
+const TREE: &str =
+    ".gitignore=out/; a/{ .gitignore! } b/{ .gitattributes! } closed/! out/! twice/{ x x }";
 
-const FAILING: Sketch = Sketch::Failing(b"");
-
-const TREE: Sketch = Sketch::Dir(&[
-    (b".gitignore", Sketch::File(b"out/\n")),
-    (b"a", Sketch::Dir(&[(b".gitignore", FAILING)])),
-    (b"b", Sketch::Dir(&[(b".gitattributes", FAILING)])),
-    (b"closed", Sketch::Closed),
-    (b"out", Sketch::Closed),
-    (b"twice", Sketch::Dir(&[(b"x", LINE), (b"x", LINE)])),
-]);
-
-const NO_INFO: Sketch = Sketch::Dir(&[(b".git", Sketch::Dir(&[(b"info", Sketch::Closed)]))]);
-
-const NO_EXCLUDE: Sketch = Sketch::Dir(&[(
-    b".git",
-    Sketch::Dir(&[(b"info", Sketch::Dir(&[(b"exclude", FAILING)]))]),
-)]);
-
-static CASES: [Case; 4] = [
+const CASES: &[Case] = &[
     (
         "a fault is of what stands on the way",
         TREE,
@@ -45,19 +27,19 @@ static CASES: [Case; 4] = [
     ),
     (
         "the top can't be listed",
-        Sketch::Closed,
+        "/!",
         b"a\n./a\n.\na//b\n",
         b"fault\tread\t-\t.\nfault\tread\t-\t.\nnone\t-\t-\t.\nbad\t-\t-\ta//b\n",
     ),
     (
         "nor .git/info",
-        NO_INFO,
+        ".git/{ info/! }",
         b"a\n",
         b"fault\tread\t-\t.git/info\n",
     ),
     (
         "nor its exclude file be read",
-        NO_EXCLUDE,
+        ".git/{ info/{ exclude! } }",
         b"a\n",
         b"fault\tread\t-\t.git/info/exclude\n",
     ),
@@ -65,20 +47,13 @@ static CASES: [Case; 4] = [
 
 #[test]
 fn directories_at_fault(rt: HostRuntime) -> Result<(), Fail> {
-    let filters = Filters::none(rt.alloc());
-    for case in &CASES {
-        check(&rt, case, &for_a_pipe(&filters), Outcome::SomeFaults)?;
+    for case in CASES {
+        check(&rt, case, "", PathStyle::Escaped, Outcome::SomeFaults)?;
     }
     Ok(())
 }
 
-const NESTED: Sketch = Sketch::Dir(&[
-    (b".gitignore", Sketch::File(b"*.o\n")),
-    (
-        b"d",
-        Sketch::Dir(&[(b".gitignore", Sketch::File(b"!k.o\n")), (b"k.o", LINE)]),
-    ),
-]);
+const NESTED: &str = ".gitignore=*.o; d/{ .gitignore=!k.o; k.o }";
 
 const PATHS: &[u8] = b"d/a.o\nd/k.o\n";
 
@@ -102,7 +77,7 @@ fn text_at(place: u64) -> &'static [u8] {
 
 #[test]
 fn each_call_fails(rt: HostRuntime) -> Result<(), Fail> {
-    let node = NESTED.node(rt.alloc())?;
+    let node = tree(rt.alloc(), NESTED)?;
     let tree = MemTree::new(&node);
     for place in 0..CALLS + 1 {
         let call = FailingCall::new(place);

@@ -3,7 +3,7 @@
 
 use crate::explain::asking::plainly;
 use lc_paths::{MAX_KEPT, Outcome};
-use lc_tests::Sketch;
+use lc_tests::tree;
 use lc_tests::trees::{FailingCall, FailingTree};
 use lc_tests::writers::{Narrow, WhenFull};
 use lc_tree::{MemTree, Node};
@@ -11,26 +11,13 @@ use std::alloc::{AllocError, Global};
 use std::process::Abort;
 use std::test::Fail;
 
-const LINE: Sketch = Sketch::File(b"x\n");
-
-const TREE: Sketch = Sketch::Dir(&[
-    (b".gitignore", Sketch::File(b"*.o\nout/\n")),
-    (
-        b"a",
-        Sketch::Dir(&[
-            (b".gitignore", Sketch::File(b"!k.o\n")),
-            (b"b", Sketch::Dir(&[(b"k.o", LINE)])),
-        ]),
-    ),
-    (b"c", Sketch::Dir(&[(b"k.o", LINE)])),
-    (b"out", Sketch::Closed),
-]);
+const TREE: &str = ".gitignore=*.o;out/; a/{ .gitignore=!k.o; b/{ k.o } } c/{ k.o } out/!";
 
 /// The number of calls that explaining the paths takes: four listings, and two files that are each opened, read, and read to their end.
 const CALLS: u64 = 10;
 
 /// Paths in several orders, and the expected text of their explanations.
-static ORDERS: [(&[u8], &[u8]); 3] = [
+const ORDERS: &[(&[u8], &[u8])] = &[
     (
         b"k.o\na/k.o\na/b/k.o\nc/k.o\n",
         b"ignored\t.gitignore:1\t*.o\tk.o\n\
@@ -71,16 +58,15 @@ fn calls_of<R: Abort + AllocGlobal>(
     let mut input = paths;
     let mut out = Narrow::new(rt.alloc(), 1024, text.len(), WhenFull::Fails)?;
     let answer = plainly(rt, rt.alloc(), &counted, &mut input, &mut out)?;
-    assert!(rt; answer == Ok(Outcome::Clean));
-    assert!(rt; out.taken.as_slice() == text);
+    assert!(rt; answer == Ok(Outcome::Clean) && out.taken.as_slice() == text);
     Ok(call.begun())
 }
 
 #[test]
 fn directories_are_entered_once_in_any_order(rt: HostRuntime) -> Result<(), Fail> {
-    let node = TREE.node(rt.alloc())?;
+    let node = tree(rt.alloc(), TREE)?;
     let tree = MemTree::new(&node);
-    for (paths, text) in &ORDERS {
+    for (paths, text) in ORDERS {
         let calls = calls_of(&rt, &tree, paths, text)?;
         assert!(rt; calls == CALLS, "{calls}");
     }
@@ -91,24 +77,13 @@ fn directories_are_entered_once_in_any_order(rt: HostRuntime) -> Result<(), Fail
 /// much.
 const COMMENT: usize = 1_000_000;
 
-/// Returns a directory whose rules are one long comment.
-fn commented(alloc: Global) -> Result<Node, AllocError> {
-    let mut comment = Vec::with_capacity(alloc, COMMENT)?;
-    for _ in 0..COMMENT {
-        comment.push(b'#')?;
-    }
-    let mut children = Vec::with_capacity(alloc, 1)?;
-    let name = b".gitignore".to_vec(alloc)?;
-    children.push((name, Node::File(comment)))?;
-    Ok(Node::Dir(children))
-}
-
 /// Returns a tree of eight directories, each named by a digit, whose rules are one long comment.
 fn eight_commented(alloc: Global) -> Result<Node, AllocError> {
     let mut children = Vec::with_capacity(alloc, 8)?;
     for digit in b"01234567" {
-        let name = [*digit].to_vec(alloc)?;
-        children.push((name, commented(alloc)?))?;
+        let file = Node::File(vec![in alloc; b'#'; COMMENT]?);
+        let directory = Node::Dir(vec![in alloc; (b".gitignore".to_vec(alloc)?, file)]?);
+        children.push(([*digit].to_vec(alloc)?, directory))?;
     }
     Ok(Node::Dir(children))
 }

@@ -1,25 +1,15 @@
 //! Tests of explanations with paths and patterns in each style.
 
-use crate::explain::asking::{Case, check, in_style};
-use lc_level::Filters;
+use crate::explain::asking::{Case, check};
 use lc_paths::{Outcome, PathStyle};
-use lc_tests::Sketch;
-use std::process::Abort;
 use std::test::Fail;
 
 /// A tree whose names have U+202E, which turns the direction of text, and whose patterns have U+009B, which begins an escape sequence.
-const TREE: Sketch = Sketch::Dir(&[
-    (b".gitignore", Sketch::File(b"*.l\xc2\x9b\n")),
-    (b"c\xe2\x80\xae", Sketch::Closed),
-    (
-        b"d\xe2\x80\xae",
-        Sketch::Dir(&[(b".gitignore", Sketch::File(b"!*.l\xc2\x9b\n"))]),
-    ),
-]);
+const TREE: &str = ".gitignore=*.l\u{9b}; c\u{202e}/! d\u{202e}/{ .gitignore=!*.l\u{9b}; }";
 
 const PATHS: &[u8] = b"d\xe2\x80\xae/x.l\xc2\x9b\nx.l\xc2\x9b\nc\xe2\x80\xae/x\n/\xc2\x9b\n";
 
-static FOR_A_PIPE: Case = (
+const FOR_A_PIPE: Case = (
     "the bytes of printed text as they are",
     TREE,
     PATHS,
@@ -29,7 +19,7 @@ static FOR_A_PIPE: Case = (
       bad\t-\t-\t/\xc2\x9b\n",
 );
 
-static FOR_A_TERMINAL: Case = (
+const FOR_A_TERMINAL: Case = (
     "what a terminal would act on as its bytes",
     TREE,
     PATHS,
@@ -39,17 +29,9 @@ static FOR_A_TERMINAL: Case = (
       bad\t-\t-\t/\\xc2\\x9b\n",
 );
 
-fn check_in_style<R: Abort + AllocGlobal>(
-    rt: &R,
-    case: &Case,
-    style: PathStyle,
-) -> Result<(), Fail> {
-    let filters = Filters::none(rt.alloc());
-    check(rt, case, &in_style(&filters, style), Outcome::SomeFaults)
-}
-
 #[test]
 fn paths_and_patterns_have_the_style(rt: HostRuntime) -> Result<(), Fail> {
-    check_in_style(&rt, &FOR_A_PIPE, PathStyle::Escaped)?;
-    check_in_style(&rt, &FOR_A_TERMINAL, PathStyle::Visible)
+    let outcome = Outcome::SomeFaults;
+    check(&rt, &FOR_A_PIPE, "", PathStyle::Escaped, outcome)?;
+    check(&rt, &FOR_A_TERMINAL, "", PathStyle::Visible, outcome)
 }

@@ -1,83 +1,25 @@
 //! Tests of the text that explains given paths of given trees.
 
-use crate::explain::asking::{Case, check, explained_words, for_a_pipe, rule_text};
-use lc_level::Filters;
-use lc_paths::{CheckFault, Outcome, explain};
-use lc_tests::Sketch;
+use crate::explain::asking::{Case, check, explained_words};
+use lc_paths::{Outcome, PathStyle};
+use lc_tests::tree;
 use lc_tests::writers::{Narrow, WhenFull};
-use lc_text::PathEnd;
-use lc_tree::{MemTree, OtherKind};
-use std::alloc::AllocError;
+use lc_tree::MemTree;
 use std::process::Abort;
 use std::test::Fail;
 
-const LINE: Sketch = Sketch::File(b"x\n");
+const WORKED: &str = ".gitignore=*.log;!keep.log;/build/; a.log keep.log src/{ m.c }";
 
-const WORKED: Sketch = Sketch::Dir(&[
-    (b".gitignore", Sketch::File(b"*.log\n!keep.log\n/build/\n")),
-    (b"a.log", LINE),
-    (b"keep.log", LINE),
-    (b"src", Sketch::Dir(&[(b"m.c", LINE)])),
-]);
+const DEEP: &str = ".gitignore=*.o;low/; src/{ .gitignore=#_own;!k.o;/gen\\_\\___;high/; a.o k.o \
+                    high/{ low/ } in/{ .gitignore=!a.o } }";
 
-const DEEP: Sketch = Sketch::Dir(&[
-    (b".gitignore", Sketch::File(b"*.o\nlow/\n")),
-    (
-        b"src",
-        Sketch::Dir(&[
-            (
-                b".gitignore",
-                Sketch::File(b"# own\n!k.o\n/gen\\ \\   \nhigh/\n"),
-            ),
-            (b"a.o", LINE),
-            (b"k.o", LINE),
-            (b"gen  ", Sketch::Dir(&[(b"low", Sketch::Dir(&[]))])),
-            (b"high", Sketch::Dir(&[(b"low", Sketch::Dir(&[]))])),
-            (
-                b"in",
-                Sketch::Dir(&[(b".gitignore", Sketch::File(b"!a.o"))]),
-            ),
-        ]),
-    ),
-]);
+const KINDS: &str = ".gitignore=d/;*.x; d/ e/{ d } f l@ l.x@ m@/";
 
-const KINDS: Sketch = Sketch::Dir(&[
-    (b".gitignore", Sketch::File(b"d/\n*.x\n")),
-    (b"d", Sketch::Dir(&[])),
-    (b"e", Sketch::Dir(&[(b"d", LINE)])),
-    (b"f", LINE),
-    (b"l", Sketch::Other(OtherKind::Special)),
-    (b"l.x", Sketch::Other(OtherKind::Special)),
-    (b"m", Sketch::Other(OtherKind::Mounted)),
-]);
+const REPOSITORY: &str =
+    ".git/{ info/{ exclude=;*.o;*.t; attributes=v.c_export-ignore; } HEAD } .gitignore=!b.o; \
+                          .gitattributes=docs_vendored;*.o_vendored; a.o docs/{ a } s/{ .git }";
 
-const INFO: Sketch = Sketch::Dir(&[
-    (b"exclude", Sketch::File(b"\n*.o\n*.t\n")),
-    (b"attributes", Sketch::File(b"v.c export-ignore\n")),
-]);
-
-const REPOSITORY: Sketch = Sketch::Dir(&[
-    (b".git", Sketch::Dir(&[(b"info", INFO), (b"HEAD", LINE)])),
-    (b".gitignore", Sketch::File(b"!b.o\n")),
-    (
-        b".gitattributes",
-        Sketch::File(b"docs vendored\n*.o vendored\n"),
-    ),
-    (b"a.o", LINE),
-    (b"docs", Sketch::Dir(&[(b"a", LINE)])),
-    (b"s", Sketch::Dir(&[(b".git", LINE)])),
-]);
-
-static CASES: [Case; 9] = [
-    (
-        "each word but one, by rules of the top",
-        WORKED,
-        b"a.log\nbuild/x.c\nsrc/m.c\nkeep.log\n",
-        b"ignored\t.gitignore:1\t*.log\ta.log\n\
-          below\t.gitignore:3\t/build/\tbuild/x.c\n\
-          none\t-\t-\tsrc/m.c\n\
-          included\t.gitignore:2\t!keep.log\tkeep.log\n",
-    ),
+const CASES: &[Case] = &[
     (
         "a deeper file overrides, and its lines are told of by its path",
         DEEP,
@@ -132,48 +74,17 @@ static CASES: [Case; 9] = [
         b"bad\t-\t-\t\nbad\t-\t-\t/\nbad\t-\t-\ta//b\nbad\t-\t-\t../a\nbad\t-\t-\t./../a\n\
           bad\t-\t-\ta/./b\nbad\t-\t-\ta/.\nbad\t-\t-\ta/b\\x00\n",
     ),
-    (
-        "dots before a path mean nothing, and a dot alone is the top",
-        DEEP,
-        b"./src/a.o\n.//src/k.o\n././src/in/a.o\n./src/high/low/\n./src/gen  /\n./gone\n.\n./\n.//./\n",
-        b"ignored\t.gitignore:1\t*.o\t./src/a.o\n\
-          included\tsrc/.gitignore:2\t!k.o\t.//src/k.o\n\
-          included\tsrc/in/.gitignore:1\t!a.o\t././src/in/a.o\n\
-          below\tsrc/.gitignore:4\thigh/\t./src/high/low/\n\
-          ignored\tsrc/.gitignore:3\t/gen\\\\ \\\\ \t./src/gen  /\n\
-          none\t-\t-\t./gone\n\
-          none\t-\t-\t.\n\
-          none\t-\t-\t./\n\
-          none\t-\t-\t.//./\n",
-    ),
-    (
-        "the paths of find . in a repository",
-        REPOSITORY,
-        b".\n./.git\n./.git/info\n./.git/HEAD\n./.gitignore\n./a.o\n./docs\n./docs/a\n./s\n./s/.git\n",
-        b"none\t-\t-\t.\n\
-          left\tgit\t-\t./.git\n\
-          left\tgit\t-\t./.git/info\n\
-          left\tgit\t-\t./.git/HEAD\n\
-          none\t-\t-\t./.gitignore\n\
-          ignored\t.git/info/exclude:2\t*.o\t./a.o\n\
-          none\t-\t-\t./docs\n\
-          none\t-\t-\t./docs/a\n\
-          none\t-\t-\t./s\n\
-          left\tgit\t-\t./s/.git\n",
-    ),
-    ("no paths", WORKED, b"", b""),
 ];
 
 #[test]
 fn paths_of_trees(rt: HostRuntime) -> Result<(), Fail> {
-    let filters = Filters::none(rt.alloc());
-    for case in &CASES {
-        check(&rt, case, &for_a_pipe(&filters), Outcome::Clean)?;
+    for case in CASES {
+        check(&rt, case, "", PathStyle::Escaped, Outcome::Clean)?;
     }
     Ok(())
 }
 
-static BESIDE_THE_TREE: Case = (
+const BESIDE_THE_TREE: Case = (
     "rules and attributes beside those of the tree's directories",
     REPOSITORY,
     b"a.o\nb.o\nc.t\nv.c\nx.bak\ndocs/a\ns/.git\n",
@@ -186,20 +97,7 @@ static BESIDE_THE_TREE: Case = (
       left\tgit\t-\ts/.git\n",
 );
 
-#[test]
-fn what_is_asked_decides(rt: HostRuntime) -> Result<(), Fail> {
-    let mut without = Vec::new(rt.alloc());
-    without.push(b"export-ignore".to_vec(rt.alloc())?)?;
-    without.push(b"vendored".to_vec(rt.alloc())?)?;
-    let filters = Filters {
-        exclude_from: Some(rule_text(rt.alloc(), b"!a.o\n*.bak\n")?),
-        without,
-        ..Filters::none(rt.alloc())
-    };
-    check(&rt, &BESIDE_THE_TREE, &for_a_pipe(&filters), Outcome::Clean)
-}
-
-static BY_THE_COMMAND_LINE: Case = (
+const BY_THE_COMMAND_LINE: Case = (
     "patterns of the command line, no ignore file, and patterns for files",
     REPOSITORY,
     b"a.o\nb.o\nc.t\nv.c\nx.bak\ndocs/a\nnone.t\nd/\nd/e.t\ns/.git\n",
@@ -216,44 +114,24 @@ static BY_THE_COMMAND_LINE: Case = (
 );
 
 #[test]
-fn the_command_line_decides(rt: HostRuntime) -> Result<(), Fail> {
-    let filters = Filters {
-        exclude: Some(rule_text(rt.alloc(), b"*.o\n!a.o\n")?),
-        include: Some(rule_text(rt.alloc(), b"*.t\na.o\ndocs/\n")?),
-        no_ignore: true,
-        ..Filters::none(rt.alloc())
-    };
+fn what_is_asked_decides(rt: HostRuntime) -> Result<(), Fail> {
+    let beside = "--exclude-from=!a.o;*.bak; --without=export-ignore --without=vendored";
+    check(
+        &rt,
+        &BESIDE_THE_TREE,
+        beside,
+        PathStyle::Escaped,
+        Outcome::Clean,
+    )?;
+    let typed =
+        "--exclude=*.o --exclude=!a.o --include=*.t --include=a.o --include=docs/ --no-ignore";
     check(
         &rt,
         &BY_THE_COMMAND_LINE,
-        &for_a_pipe(&filters),
+        typed,
+        PathStyle::Escaped,
         Outcome::Clean,
     )
-}
-
-const ENDED_BY_NUL: &[u8] = b"ignored\t.gitignore:1\t*.log\ta\\x0a.log\nnone\t-\t-\tsrc/\n";
-
-#[test]
-fn a_path_may_have_a_line_feed(rt: HostRuntime) -> Result<(), Fail> {
-    let node = WORKED.node(rt.alloc())?;
-    let tree = MemTree::new(&node);
-    let mut out = Narrow::new(rt.alloc(), 64, ENDED_BY_NUL.len(), WhenFull::Fails)?;
-    let filters = Filters::none(rt.alloc());
-    let mut input = b"a\n.log\0src/\0".as_slice();
-    let answer = explain(
-        rt.alloc(),
-        &tree,
-        &for_a_pipe(&filters),
-        PathEnd::Nul,
-        &mut input,
-        &mut out,
-    );
-    if answer == Err(CheckFault::Memory) {
-        return Err(AllocError.into());
-    }
-    assert!(rt; answer == Ok(Outcome::Clean));
-    assert!(rt; out.taken.as_slice() == ENDED_BY_NUL);
-    Ok(())
 }
 
 /// Arguments, each of which is a path, whatever its bytes.
@@ -265,11 +143,10 @@ const OF_WORDS: &[u8] =
 
 #[test]
 fn words_are_paths(rt: HostRuntime) -> Result<(), Fail> {
-    let node = WORKED.node(rt.alloc())?;
+    let node = tree(rt.alloc(), WORKED)?;
     let tree = MemTree::new(&node);
     let mut out = Narrow::new(rt.alloc(), 64, OF_WORDS.len(), WhenFull::Fails)?;
     let answer = explained_words(&rt, rt.alloc(), &tree, &WORDS, &mut out)?;
-    assert!(rt; answer == Ok(Outcome::Clean));
-    assert!(rt; out.taken.as_slice() == OF_WORDS);
+    assert!(rt; answer == Ok(Outcome::Clean) && out.taken.as_slice() == OF_WORDS);
     Ok(())
 }

@@ -1,6 +1,6 @@
 //! Tests of the list, at the top of a page, of what could not be read.
 
-use crate::picture::reports::{BETWEEN, report_of};
+use crate::picture::reports::{BETWEEN, has_part, report_of};
 use lc_level::FaultWord;
 use lc_picture::page;
 use lc_walk::FaultLine;
@@ -30,7 +30,7 @@ fn end_with_faults(alloc: Global, faults: &[u8]) -> Result<Vec<u8>, AllocError> 
 #[test]
 fn what_could_not_be_read(rt: HostRuntime) -> Result<(), Fail> {
     let alloc = rt.alloc();
-    let mut report = report_of(alloc, &[], [0, 0, 0, 0], &[])?;
+    let mut report = report_of(&rt, alloc, &[])?;
     report.faults.push(fault(alloc, b"", FaultWord::Name)?)?;
     report.faults.push(fault(alloc, b"a<b", FaultWord::Read)?)?;
     let text = page(alloc, b"tree", b"", &report, None)?;
@@ -44,6 +44,6 @@ fn what_could_not_be_read(rt: HostRuntime) -> Result<(), Fail> {
     }
     let text = page(alloc, b"tree", b"", &report, None)?;
     let end = b"<li>x: read</li>\n<li>and 2 more</li>\n</ul>\n<div";
-    assert!(rt; text.windows(end.len()).any(|part| part == end.as_slice()));
+    assert!(rt; has_part(&text, end));
     Ok(())
 }

@@ -1,17 +1,16 @@
 //! Tests of whole pages: reports, and the parts that their pages must have.
 
-use crate::picture::reports::{BETWEEN, File, Row, report_of};
+use crate::picture::reports::{BETWEEN, File, has_part, report_of};
 use lc_picture::page;
 use lc_sheet::Number;
 use std::alloc::{AllocError, Global};
+use std::process::Abort;
 use std::test::Fail;
 
 /// A report, and the parts that its page must have: the sums, the rows of the chart, the word for the number that is drawn, and the boxes.
 struct Case {
     name: &'static str,
     sort: Option<Number>,
-    rows: &'static [Row],
-    totals: [u64; 4],
     files: &'static [File],
     parts: [&'static [u8]; 4],
 }
@@ -20,8 +19,6 @@ const CASES: &[Case] = &[
     Case {
         name: "no_files",
         sort: None,
-        rows: &[],
-        totals: [0, 0, 0, 0],
         files: &[],
         parts: [
             b"<div><dt>files</dt><dd>0</dd></div>\n\
@@ -36,12 +33,6 @@ const CASES: &[Case] = &[
     Case {
         name: "directories_in_directories",
         sort: None,
-        rows: &[
-            (None, [1, 4, 1, 9]),
-            (Some(b"c"), [3, 13, 4, 85]),
-            (Some(b"h"), [1, 1, 0, 15]),
-        ],
-        totals: [5, 18, 5, 109],
         files: &[
             (b"Makefile", [4, 1, 9]),
             (b"src-old/main.c", [3, 1, 15]),
@@ -95,12 +86,6 @@ const CASES: &[Case] = &[
     Case {
         name: "markup_and_hidden_bytes_in_names",
         sort: Some(Number::Bytes),
-        rows: &[
-            (None, [1, 2, 0, 1_995]),
-            (Some(b"<i>"), [1, 1, 0, 1_000]),
-            (Some(b"h"), [2, 5, 0, 5]),
-        ],
-        totals: [4, 8, 0, 3_000],
         files: &[
             (b"<b>&amp;\"'/x.<i>", [1, 0, 1_000]),
             (b"deep/z.h", [0, 0, 3]),
@@ -148,8 +133,6 @@ const CASES: &[Case] = &[
     Case {
         name: "directories_that_were_named",
         sort: None,
-        rows: &[(Some(b"c"), [3, 6, 0, 9]), (Some(b"h"), [2, 9, 0, 11])],
-        totals: [5, 15, 0, 20],
         files: &[
             (b"../lib/a.c", [1, 0, 2]),
             (b"./src/m.c", [2, 0, 3]),
@@ -197,8 +180,8 @@ const CASES: &[Case] = &[
     },
 ];
 
-/// Files with 10,000 lines. The directories `a/s`, `b`, `c` and `c/d` have less than a thousandth of these lines each, and so has what is in
-/// `a` but not in `a/k`.
+/// Files with 10,000 lines. The directories `a/s`, `b`, `c` and `c/d` have less than a thousandth of these lines each, and so has what is
+/// in `a` but not in `a/k`.
 const SMALL: &[File] = &[
     (b"a/k/x.c", [9_981, 0, 9_981]),
     (b"a/s/q.h", [4, 0, 4]),
@@ -217,66 +200,39 @@ const CHAINS: &[File] = &[
     (b"src/net/core/none/v.c", [0, 0, 0]),
 ];
 
-/// The rows of 22 extensions. The chart has no place for the last two.
-const MANY: &[Row] = &[
-    (Some(b"a"), [1, 40, 0, 0]),
-    (Some(b"b"), [1, 39, 1, 2]),
-    (Some(b"c"), [1, 38, 2, 4]),
-    (Some(b"d"), [1, 37, 3, 6]),
-    (Some(b"e"), [1, 36, 4, 8]),
-    (Some(b"f"), [1, 35, 5, 10]),
-    (Some(b"g"), [1, 34, 6, 12]),
-    (Some(b"h"), [1, 33, 7, 14]),
-    (Some(b"i"), [1, 32, 8, 16]),
-    (Some(b"j"), [1, 31, 9, 18]),
-    (Some(b"k"), [1, 30, 10, 20]),
-    (Some(b"l"), [1, 29, 11, 22]),
-    (Some(b"m"), [1, 28, 12, 24]),
-    (Some(b"n"), [1, 27, 13, 26]),
-    (Some(b"o"), [1, 26, 14, 28]),
-    (Some(b"p"), [1, 25, 15, 30]),
-    (Some(b"q"), [1, 24, 16, 32]),
-    (Some(b"r"), [1, 23, 17, 34]),
-    (Some(b"s"), [1, 22, 18, 36]),
-    (Some(b"t"), [1, 21, 19, 38]),
-    (Some(b"u"), [1, 20, 20, 40]),
-    (Some(b"v"), [1, 19, 21, 42]),
+/// Files with 22 extensions. The chart has no place for the last two.
+const MANY: &[File] = &[
+    (b"x.a", [40, 0, 0]),
+    (b"x.b", [39, 1, 2]),
+    (b"x.c", [38, 2, 4]),
+    (b"x.d", [37, 3, 6]),
+    (b"x.e", [36, 4, 8]),
+    (b"x.f", [35, 5, 10]),
+    (b"x.g", [34, 6, 12]),
+    (b"x.h", [33, 7, 14]),
+    (b"x.i", [32, 8, 16]),
+    (b"x.j", [31, 9, 18]),
+    (b"x.k", [30, 10, 20]),
+    (b"x.l", [29, 11, 22]),
+    (b"x.m", [28, 12, 24]),
+    (b"x.n", [27, 13, 26]),
+    (b"x.o", [26, 14, 28]),
+    (b"x.p", [25, 15, 30]),
+    (b"x.q", [24, 16, 32]),
+    (b"x.r", [23, 17, 34]),
+    (b"x.s", [22, 18, 36]),
+    (b"x.t", [21, 19, 38]),
+    (b"x.u", [20, 20, 40]),
+    (b"x.v", [19, 21, 42]),
 ];
 
-/// Returns whether the page of a case's report ends with the case's parts, from the heading on.
-fn has_parts(alloc: Global, case: &Case) -> Result<bool, AllocError> {
-    let report = report_of(alloc, case.rows, case.totals, case.files)?;
-    let mut body = b"</style>\n</head>\n<body>\n<h1>a&#60;b</h1>\n<p class=\"by\">".to_vec(alloc)?;
-    body.extend_from_slice(case.parts[2])?;
-    body.extend_from_slice(b" by directory</p>\n<dl>\n")?;
-    body.extend_from_slice(case.parts[0])?;
-    body.extend_from_slice(b"</dl>\n")?;
-    for (between, part) in BETWEEN.iter().zip(case.parts[1..].iter().rev()) {
-        body.extend_from_slice(between)?;
-        body.extend_from_slice(part)?;
-    }
-    body.extend_from_slice(BETWEEN[3])?;
-    let text = page(alloc, b"a<b", b"", &report, case.sort)?;
-    Ok(text.ends_with(&body))
-}
+/// The name of a case, files, and a part of their page.
+type Part = (&'static str, &'static [File], &'static [u8]);
 
-#[test]
-fn pages(rt: HostRuntime) -> Result<(), Fail> {
-    for case in CASES {
-        assert!(rt; has_parts(rt.alloc(), case)?, "{}", case.name);
-    }
-    Ok(())
-}
-
-#[test]
-fn small_directories_and_files_are_drawn_together(rt: HostRuntime) -> Result<(), Fail> {
-    let rows: &[Row] = &[
-        (Some(b"c"), [4, 9_988, 0, 9_988]),
-        (Some(b"h"), [2, 12, 0, 12]),
-    ];
-    let report = report_of(rt.alloc(), rows, [6, 10_000, 0, 10_000], SMALL)?;
-    let text = page(rt.alloc(), b"tree", b"", &report, None)?;
-    let end =
+const PARTS: &[Part] = &[
+    (
+        "small_directories_and_files_are_drawn_together",
+        SMALL,
         b"<b>tree</b> <span>lines 10,000 (100.0%)</span></summary><div><i class=\"e1\" style=\"--n:19\"><b>2 small \
         directories, others</b> <span>lines 19 (0.2%)</span></i><details class=\"e0\" style=\"--n:9981\" open><summary \
         title=\"a/k: lines 9,981, files 1, blank 0, bytes 9,981, 99.8% of all lines\"><b>a/k</b> <span>lines 9,981 (99.8%)</span>\
@@ -285,21 +241,11 @@ fn small_directories_and_files_are_drawn_together(rt: HostRuntime) -> Result<(),
         </div></details>\n\
         </div></details>\n\
         </div>\n\
-        <p>";
-    assert!(rt; text.windows(end.len()).any(|part| part == end.as_slice()));
-    Ok(())
-}
-
-#[test]
-fn a_chain_of_directories_is_one_box(rt: HostRuntime) -> Result<(), Fail> {
-    let report = report_of(
-        rt.alloc(),
-        &[(Some(b"c"), [5, 9, 0, 9])],
-        [5, 9, 0, 9],
+        <p>",
+    ),
+    (
+        "a_chain_of_directories_is_one_box",
         CHAINS,
-    )?;
-    let text = page(rt.alloc(), b"tree", b"", &report, None)?;
-    let end =
         b"<b>src</b> <span>lines 9 (100.0%)</span></summary><div><details class=\"e0\" style=\"--n:8\" open><summary \
         title=\"src/gpu/drm: lines 8, files 2, blank 0, bytes 8, 88.9% of all lines\"><b>gpu/drm</b> <span>lines 8 (88.9%)</span>\
         </summary><div><details class=\"e0\" style=\"--n:6\" open><summary title=\"src/gpu/drm/amd: lines 6, files 1, blank 0, \
@@ -318,14 +264,55 @@ fn a_chain_of_directories_is_one_box(rt: HostRuntime) -> Result<(), Fail> {
         </div></details>\n\
         </div></details>\n\
         </div>\n\
-        <p>";
-    assert!(rt; text.windows(end.len()).any(|part| part == end.as_slice()));
+        <p>",
+    ),
+    (
+        "extensions_that_the_chart_has_no_place_for",
+        MANY,
+        b"<tr class=\"e8\"><th>.t</th><td>1</td><td>21</td><td>19</td><td>38</td><td>3.2%</td><td><div class=\"bar\">\
+          <i style=\"--n:21\"></i><u style=\"--n:19\"></u></div></td></tr>\n\
+          <tr><th>others</th><td>2</td><td>39</td><td>41</td><td>82</td><td>6.0%</td><td></td></tr>\n</table>\n</body>\n</html>\n",
+    ),
+];
+
+/// Returns whether the page of a case's report ends with the case's parts, from the heading on.
+fn has_parts(rt: &impl Abort, alloc: Global, case: &Case) -> Result<bool, AllocError> {
+    let report = report_of(rt, alloc, case.files)?;
+    let mut body = b"</style>\n</head>\n<body>\n<h1>a&#60;b</h1>\n<p class=\"by\">".to_vec(alloc)?;
+    body.extend_from_slice(case.parts[2])?;
+    body.extend_from_slice(b" by directory</p>\n<dl>\n")?;
+    body.extend_from_slice(case.parts[0])?;
+    body.extend_from_slice(b"</dl>\n")?;
+    for (between, part) in BETWEEN.iter().zip(case.parts[1..].iter().rev()) {
+        body.extend_from_slice(between)?;
+        body.extend_from_slice(part)?;
+    }
+    body.extend_from_slice(BETWEEN[3])?;
+    let text = page(alloc, b"a<b", b"", &report, case.sort)?;
+    Ok(text.ends_with(&body))
+}
+
+#[test]
+fn pages(rt: HostRuntime) -> Result<(), Fail> {
+    for case in CASES {
+        assert!(rt; has_parts(&rt, rt.alloc(), case)?, "{}", case.name);
+    }
+    Ok(())
+}
+
+#[test]
+fn parts_of_pages(rt: HostRuntime) -> Result<(), Fail> {
+    for (name, files, part) in PARTS {
+        let report = report_of(&rt, rt.alloc(), files)?;
+        let text = page(rt.alloc(), b"tree", b"", &report, None)?;
+        assert!(rt; has_part(&text, part), "{name}");
+    }
     Ok(())
 }
 
 #[test]
 fn a_page_is_one_whole_document(rt: HostRuntime) -> Result<(), Fail> {
-    let report = report_of(rt.alloc(), &[], [0, 0, 0, 0], &[])?;
+    let report = report_of(&rt, rt.alloc(), &[])?;
     let text = page(rt.alloc(), b"a<b", b"where lines<9", &report, None)?;
     assert!(rt;
         text.starts_with(
@@ -335,23 +322,6 @@ fn a_page_is_one_whole_document(rt: HostRuntime) -> Result<(), Fail> {
         )
     );
     let heading = b"<h1>a&#60;b</h1>\n<p class=\"by\">lines of files where lines&#60;9</p>\n<dl>\n";
-    assert!(rt;
-        text.windows(heading.len())
-            .any(|part| part == heading.as_slice())
-    );
-    Ok(())
-}
-
-#[test]
-fn extensions_that_the_chart_has_no_place_for(rt: HostRuntime) -> Result<(), Fail> {
-    let report = report_of(rt.alloc(), MANY, [22, 649, 231, 462], &[])?;
-    let mut end =
-        b"<tr class=\"e8\"><th>.t</th><td>1</td><td>21</td><td>19</td><td>38</td><td>3.2%</td><td><div class=\"bar\">\
-          <i style=\"--n:21\"></i><u style=\"--n:19\"></u></div></td></tr>\n\
-          <tr><th>others</th><td>2</td><td>39</td><td>41</td><td>82</td><td>6.0%</td><td></td></tr>\n"
-            .to_vec(rt.alloc())?;
-    end.extend_from_slice(BETWEEN[3])?;
-    let text = page(rt.alloc(), b"tree", b"", &report, Some(Number::Lines))?;
-    assert!(rt; text.ends_with(&end));
+    assert!(rt; has_part(&text, heading));
     Ok(())
 }

@@ -19,7 +19,7 @@ fn first<S: Source + Drop>(mut file: S, buffer: &mut [u8]) -> usize {
 }
 
 #[test]
-fn names_of_a_system(rt: HostRuntime) -> Result<(), Fail> {
+fn answers_of_a_system(rt: HostRuntime) -> Result<(), Fail> {
     let directories = vec![in rt.alloc(); ("top", TOP.node(rt.alloc())?)]?;
     let system = MemSystem {
         directories: &directories,
@@ -35,19 +35,6 @@ fn names_of_a_system(rt: HostRuntime) -> Result<(), Fail> {
     let file = system.open_file(rt.alloc(), "a")?;
     let mut buffer = [0; 4];
     assert!(rt; first(file, &mut buffer) == 1 && buffer[0] == b'x');
-    Ok(())
-}
-
-#[test]
-fn answers_of_a_system(rt: HostRuntime) -> Result<(), Fail> {
-    let system = MemSystem {
-        directories: &[],
-        bounded: &[],
-        absent: &Node::Closed,
-        files: &Node::Closed,
-        why: Some(UnreadReason::Missing),
-        above: Some(("..", "top")),
-    };
     let why = system.why_unlisted(rt.alloc(), "top")?;
     assert!(rt; matches!(why, Some(UnreadReason::Missing)));
     let why = system.why_unread(rt.alloc(), "list");

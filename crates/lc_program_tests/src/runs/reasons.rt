@@ -1,4 +1,4 @@
-//! Runs that could not read a directory or a list of paths, and the reasons on standard error.
+//! Runs that could not read a directory or a file, or whose arguments are refused, and the reasons on standard error.
 
 use crate::runs::asking::{Case, EMPTY, compare_all};
 use lc_program::UnreadReason;
@@ -13,14 +13,13 @@ const UNREAD: Case<'static> = Case {
            total\t*\t*\t0\t0\t0\t0\n\
            directories\t0\n\
            fault\tread\t.\n",
+    err: b"lc: cannot read absent\n",
     ..EMPTY
 };
 
-/// A count of a file in place of a directory, in CSV, for which standard error has other lines.
+/// A count of a file in place of a directory.
 const FILE: Case<'static> = Case {
-    words: &["count", "--by", "ext", "--format=csv", "src/m.c"],
     why: Some(UnreadReason::IsFile),
-    out: b"ext,files,lines,blank,bytes\n",
     ..UNREAD
 };
 
@@ -28,96 +27,47 @@ const FILE: Case<'static> = Case {
 const UNLISTED: Case<'static> = Case {
     words: &["count", "--only-from", "gone", "other"],
     status: 3,
-    out: b"",
-    ..UNREAD
+    err: b"lc: cannot read paths\n",
+    ..EMPTY
 };
 
 const CASES: &[Case<'static>] = &[
     Case {
         name: "no_reason",
-        err: b"lc: cannot read absent\n",
         ..UNREAD
     },
     Case {
         name: "another_reason",
         why: Some(UnreadReason::Other),
-        err: b"lc: cannot read absent\n",
         ..UNREAD
     },
     Case {
-        name: "nothing_there",
-        why: Some(UnreadReason::Missing),
-        err: b"lc: cannot read absent: no such file or directory\n",
+        name: "no_reason_of_an_explanation",
+        words: &["explain", "absent", "a"],
+        out: b"fault\tread\t-\t.\n",
+        err: b"",
         ..UNREAD
-    },
-    Case {
-        name: "not_permitted",
-        why: Some(UnreadReason::Denied),
-        err: b"lc: cannot read absent: permission denied\n",
-        ..UNREAD
-    },
-    Case {
-        name: "no_directory",
-        why: Some(UnreadReason::NotDirectory),
-        err: b"lc: cannot read absent: not a directory\n",
-        ..UNREAD
-    },
-    Case {
-        name: "a_file",
-        err: b"lc: cannot read src/m.c: not a directory: lc count --only m.c src counts one file\n",
-        ..FILE
-    },
-    Case {
-        name: "a_file_beside_the_program",
-        words: &["count", "--by", "ext", "--format=csv", "m.c"],
-        err: b"lc: cannot read m.c: not a directory: lc count --only m.c . counts one file\n",
-        ..FILE
     },
     Case {
         name: "a_file_of_the_root",
-        words: &["count", "--by", "ext", "--format=csv", "/m.c"],
+        words: &["count", "--by", "ext", "/m.c"],
         err: b"lc: cannot read /m.c: not a directory: lc count --only m.c / counts one file\n",
         ..FILE
     },
     Case {
-        name: "a_file_that_a_shell_needs_quoted",
-        words: &["count", "--by", "ext", "--format=csv", "my src/m.c"],
-        err: b"lc: cannot read my src/m.c: not a directory: lc count --only m.c 'my src' counts one file\n",
-        ..FILE
-    },
-    Case {
         name: "a_file_that_is_escaped",
-        words: &["count", "--by", "ext", "--format=csv", "src/m\\c"],
+        words: &["count", "--by", "ext", "src/m\\c"],
         err: b"lc: cannot read src/m\\\\c: not a directory\n",
         ..FILE
     },
     Case {
         name: "a_file_like_an_option",
-        words: &["count", "--by", "ext", "--format=csv", "src/-m"],
+        words: &["count", "--by", "ext", "src/-m"],
         err: b"lc: cannot read src/-m: not a directory\n",
         ..FILE
     },
     Case {
         name: "a_list_without_a_reason",
-        err: b"lc: cannot read paths\n",
-        ..UNLISTED
-    },
-    Case {
-        name: "a_list_that_is_not_there",
-        why: Some(UnreadReason::Missing),
-        err: b"lc: cannot read paths: no such file or directory\n",
-        ..UNLISTED
-    },
-    Case {
-        name: "a_list_that_is_not_permitted",
-        why: Some(UnreadReason::Denied),
-        err: b"lc: cannot read paths: permission denied\n",
-        ..UNLISTED
-    },
-    Case {
-        name: "a_list_that_is_a_directory",
-        why: Some(UnreadReason::IsDirectory),
-        err: b"lc: cannot read paths: is a directory\n",
         ..UNLISTED
     },
     Case {
@@ -127,23 +77,19 @@ const CASES: &[Case<'static>] = &[
         ..UNLISTED
     },
     Case {
-        name: "rules_without_a_reason",
-        words: &["count", "--exclude-from", "gone", "other"],
-        why: Some(UnreadReason::Missing),
-        err: b"lc: cannot read rules\n",
+        name: "arguments_that_are_refused",
+        words: &["count", "--max-dirs", "1048577", "top"],
+        status: 2,
+        err: b"error: invalid value for '--max-dirs <N>': '1048577' is no number from 1 to 1048576\n\n\
+               For more information, try '--help'.\n",
         ..UNLISTED
     },
     Case {
-        name: "a_part_that_is_not_read",
-        words: &["count", "--by", "ext", "top"],
-        top: Sketch::Dir(&[(b"shut", Sketch::Closed)]),
-        why: Some(UnreadReason::Missing),
-        out: b"ext\ttext\teol\tfiles\tlines\tblank\tbytes\n\
-               total\t*\t*\t0\t0\t0\t0\n\
-               directories\t1\n\
-               fault\tread\tshut\n",
-        err: b"lc: 1 path could not be read: see the line that begins with fault\n",
-        ..UNREAD
+        name: "rules_that_fail",
+        words: &["check", "--explain", "failing"],
+        files: Sketch::Dir(&[(b"failing", Sketch::Failing(b"*\n"))]),
+        err: b"lc: cannot read rules\n",
+        ..UNLISTED
     },
 ];
 

@@ -28,18 +28,9 @@ const CASES: &[Case] = &[
 #[test]
 fn words_for_a_shell(rt: HostRuntime) -> Result<(), Fail> {
     for (word, expected) in CASES {
-        let mut text = String::new(rt.alloc());
+        let mut text = String::from_str(rt.alloc(), "lc count ")?;
         push_quoted(&mut text, word)?;
-        assert!(rt; text.as_str() == *expected, "{word}");
+        assert!(rt; text.strip_prefix("lc count ") == Some(*expected), "{word}");
     }
-    Ok(())
-}
-
-#[test]
-fn a_word_is_appended(rt: HostRuntime) -> Result<(), Fail> {
-    let mut text = String::new(rt.alloc());
-    text.push_str("lc count ")?;
-    push_quoted(&mut text, "my files")?;
-    assert!(rt; text.as_str() == "lc count 'my files'");
     Ok(())
 }

@@ -1,9 +1,26 @@
-//! Paths as a terminal shows them.
+//! Paths as they are printed for a program, and as a terminal shows them.
 
-use lc_text::{Name, push_visible_name, push_visible_path};
+use lc_text::{Name, escape, push_visible_name, push_visible_path};
 use std::alloc::{AllocError, Global};
 use std::process::Abort;
 use std::test::Fail;
+
+/// Paths, and the expected text of `escape` for each.
+const ESCAPED: &[(&[u8], &[u8])] = &[
+    (b"t\x01.c", b"t\\x01.c"),
+    (b"a\\b", b"a\\\\b"),
+    (b"", b"."),
+    (b"\x1f \x7f\xe4", b"\\x1f \\x7f\xe4"),
+];
+
+#[test]
+fn escapes(rt: HostRuntime) -> Result<(), Fail> {
+    for (path, text) in ESCAPED {
+        let escaped = escape(rt.alloc(), path)?;
+        assert!(rt; escaped.as_slice() == *text, "{path:?}");
+    }
+    Ok(())
+}
 
 /// The name of the case, a path, and the expected text.
 type Case = (&'static str, &'static str, &'static str);
@@ -58,11 +75,6 @@ fn visible_paths(rt: HostRuntime) -> Result<(), Fail> {
     for (name, path, expected) in CASES {
         assert!(rt; is_shown(rt.alloc(), path.as_bytes(), expected)?, "{name}");
     }
-    Ok(())
-}
-
-#[test]
-fn a_path_that_is_no_text(rt: HostRuntime) -> Result<(), Fail> {
     assert!(rt; is_shown(rt.alloc(), b"caf\xe9\\\n", "caf\\xe9\\\\\\x0a")?);
     Ok(())
 }

@@ -1,10 +1,20 @@
-//! Output lines of about 1 KiB, because each shows a long pattern. An output of `LINES` lines is longer than three blocks, the pieces in
-//! which output is written.
+//! Expected results of calls that write: what a call returns if its writer is full, and an output that is longer than three blocks, the
+//! pieces in which output is written. Each of its lines has about 1 KiB, because the line shows a long pattern.
 
+use lc_paths::CheckFault;
 use std::alloc::{AllocError, Global};
 
-/// The number of lines. They make three blocks and a part of a fourth.
+/// The number of lines of the long output. They make three blocks and a part of a fourth.
 pub(crate) const LINES: usize = 200;
+
+/// Returns the result of a call that writes this text, if the writer has room for `room` bytes. A call that writes all returns `done`.
+pub(crate) fn written<T: Copy>(done: T, text: &[u8], room: usize) -> Result<T, CheckFault> {
+    if room == text.len() {
+        Ok(done)
+    } else {
+        Err(CheckFault::Write)
+    }
+}
 
 /// Returns a pattern of 1,003 bytes that matches `a`.
 pub(crate) fn long_pattern(alloc: Global) -> Result<Vec<u8>, AllocError> {
