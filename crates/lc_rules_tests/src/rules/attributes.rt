@@ -15,7 +15,7 @@ fn file(alloc: Global, bytes: &[u8], top: bool) -> Result<Arc<AttrFile, Global>,
     Ok(Arc::new(alloc, read(alloc, bytes, top)?)?)
 }
 
-/// Returns whether a word, such as `unset` or `=lf`, stands for this state.
+/// Returns whether a word, such as `unset` or `=lf`, is the word for this state.
 fn is_state(state: State, word: &str) -> bool {
     match state {
         State::Set => word == "set",

@@ -22,8 +22,8 @@ fn digit(byte: u8) -> u8 {
     }
 }
 
-/// Returns the byte that a text begins with, and the rest of the text. `\n`, `\r`, `\t`, `\0` and `\xNN` stand for one byte, and so does a
-/// backslash before any other byte, for that byte.
+/// Returns the first byte of a text, and the rest of the text. `\n`, `\r`, `\t`, `\0` and `\xNN` are read as one byte, as in Rust. A
+/// backslash before any other byte is dropped.
 fn first<'a>(text: &'a [u8]) -> Option<(u8, &'a [u8])> {
     match text {
         [b'\\', b'n', rest @ ..] => Some((b'\n', rest)),
@@ -37,7 +37,7 @@ fn first<'a>(text: &'a [u8]) -> Option<(u8, &'a [u8])> {
     }
 }
 
-/// Returns the bytes that a column stands for.
+/// Returns the bytes of a column, with its escapes replaced by bytes.
 pub(super) fn bytes_of(alloc: Global, column: &str) -> Result<Vec<u8>, AllocError> {
     let mut bytes = Vec::new(alloc);
     let mut left = column.as_bytes();
