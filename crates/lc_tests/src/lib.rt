@@ -5,12 +5,12 @@
 //! - `trees`: trees that pass calls on to another tree
 //! - `sketch`: trees in memory, made from a text that lists their entries
 //! - `sketch_table`: trees in memory, made from a constant table
-//! - `files`: lines of files, made from constant tables
 //! - `request`: what a user requests, read from options as on a command line
 //! - `lines`: words for what a walk finds, in which tests write their expected results
+//! - `cases`: cases as text, which programs read and print with their answers
 #![tactic(auto)]
 
-mod files;
+pub mod cases;
 mod lines;
 pub mod readers;
 mod request;
@@ -19,7 +19,6 @@ mod sketch_table;
 pub mod trees;
 pub mod writers;
 
-pub use files::{File, FileOfStates, file_lines, lines_of_states};
 pub use lines::{
     cut, eol_of_word, has_words, push_faults, push_kind, push_name, push_reason, push_skipped,
     text_of_word,

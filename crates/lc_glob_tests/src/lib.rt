@@ -1,5 +1,0 @@
-//! The tests of patterns and paths.
-#![tactic(auto)]
-
-#[cfg(test)]
-mod glob;
