@@ -1,14 +1,4 @@
-//! Tests of opening one directory of a tree in memory and counting its files.
+//! Tests of counting the files of a directory with idle threads, and of rule files that fail or are too long.
 
-mod after_large;
-mod entering;
-mod faults;
-mod filters;
 mod in_parts;
-mod left_out;
-mod levels;
-mod named;
-mod narrowed;
-mod repository;
 mod rule_text;
-mod work;

@@ -1,15 +1,21 @@
-//! A directory with many files, which idle threads help to count.
+//! Directories whose files idle threads help to count: one with many files, and one whose files follow a large file.
 
-use crate::level::work::NOTHING;
 use lc_level::{
-    CountedFiles, FaultLine, FaultWord, Filters, Job, LevelReader, Opened, Scratch, SpareThreads,
+    CountedFiles, FaultLine, FaultWord, Filters, Job, LevelReader, Opened, ReaderOptions, Scratch,
+    SpareThreads,
 };
-use lc_tests::numbered_files;
+use lc_tests::{numbered_files, tree};
 use lc_tree::{IdleThreads, MemTree, Node};
 use std::alloc::{AllocError, Global};
 use std::process::Abort;
 use std::test::Fail;
 use std::thread::Threads;
+
+const NOTHING: ReaderOptions<'static> = ReaderOptions {
+    left_out: false,
+    texts: false,
+    named: None,
+};
 
 fn is_same(found: &CountedFiles, wanted: &CountedFiles) -> bool {
     let files = found.files.iter().zip(&wanted.files).all(|(file, other)| {
@@ -26,7 +32,7 @@ fn is_same(found: &CountedFiles, wanted: &CountedFiles) -> bool {
 
 /// Counts the files of a tree's top: by `count_divided` with these idle threads, or by `count` if `idle` is `None`. The counted files come
 /// with the error of an absent path.
-pub(super) fn count_flat<'t, R: Threads + Sync>(
+fn count_flat<'t, R: Threads + Sync>(
     rt: &R,
     alloc: Global,
     tree: &'t MemTree<'_>,
@@ -59,7 +65,7 @@ pub(super) fn count_flat<'t, R: Threads + Sync>(
 
 /// Checks that a count with this many idle threads finds the same files as a count without them. Afterwards all these threads must be idle
 /// again, even if an allocation failed.
-pub(super) fn check<R: Threads + Sync + Abort>(
+fn check<R: Threads + Sync + Abort>(
     rt: &R,
     alloc: Global,
     node: &Node,
@@ -77,14 +83,39 @@ pub(super) fn check<R: Threads + Sync + Abort>(
     Ok(())
 }
 
-#[test]
-fn many_files_are_counted_in_parts(rt: HostRuntime) -> Result<(), Fail> {
-    let node = numbered_files(rt.alloc(), 2000, 7)?;
-    let (tree, filters) = (MemTree::new(&node), Filters::none(rt.alloc()));
-    let wanted = count_flat(&rt, rt.alloc(), &tree, &filters, None)?;
-    assert!(rt; wanted.files.len() == 1714 && wanted.faults.len() == 287);
+/// Checks that a directory has this many files that can be counted, and this many errors, however many threads are idle.
+fn check_all<R: Threads + Sync + Abort>(
+    rt: &R,
+    alloc: Global,
+    node: &Node,
+    (files, faults): (usize, usize),
+) -> Result<(), AllocError> {
+    let (tree, filters) = (MemTree::new(node), Filters::none(alloc));
+    let wanted = count_flat(rt, alloc, &tree, &filters, None)?;
+    assert!(rt; wanted.files.len() == files && wanted.faults.len() == faults);
     for threads in [0, 1, 2, 15, 40] {
-        check(&rt, rt.alloc(), &node, &wanted, threads)?;
+        check(rt, alloc, node, &wanted, threads)?;
     }
+    Ok(())
+}
+
+/// The number of bytes of the large file: over 16 MiB, so that the files after this one are counted in parts.
+const LARGE: usize = 17 << 20;
+
+/// Returns a directory of a small file, a large one, and three more. A read fails at the end of the second of these three.
+fn files_after_a_large_one(alloc: Global) -> Result<Node, AllocError> {
+    let mut top = tree(alloc, "a=a; c=c^; d!d e=e;;")?;
+    if let Node::Dir(entries) = &mut top {
+        let large = vec![in alloc; b'\n'; LARGE]?;
+        entries.push((b"b".to_vec(alloc)?, Node::File(large)))?;
+    }
+    Ok(top)
+}
+
+#[test]
+fn files_are_counted_in_parts(rt: HostRuntime) -> Result<(), Fail> {
+    let alloc = rt.alloc();
+    check_all(&rt, alloc, &numbered_files(alloc, 2000, 7)?, (1714, 287))?;
+    check_all(&rt, alloc, &files_after_a_large_one(alloc)?, (4, 2))?;
     Ok(())
 }

@@ -29,21 +29,12 @@ fn files_of_rules(rt: HostRuntime) -> Result<(), Fail> {
     for given in 0..=FILE.len() {
         compare_rules(&rt, &mut Failing(&FILE[..given]), Err(RulesFileFault::Read))?;
     }
-    compare_rules(&rt, &mut Bytewise(FILE), Ok(2))
-}
-
-#[test]
-fn files_of_rules_at_their_limit(rt: HostRuntime) -> Result<(), Fail> {
-    let too_long = vec![in rt.alloc(); b'a'; 1_048_577]?;
-    compare_rules(&rt, &mut too_long.as_slice(), Err(RulesFileFault::TooLong))?;
-    compare_rules(&rt, &mut &too_long[1..], Ok(1))
-}
-
-#[test]
-fn rules_without_end_are_too_long(rt: HostRuntime) -> Result<(), Fail> {
+    compare_rules(&rt, &mut Bytewise(FILE), Ok(2))?;
     let mut endless = Counted::new(Endless);
     compare_rules(&rt, &mut endless, Err(RulesFileFault::TooLong))?;
     // 16 buffers of 65,536 bytes, and the first byte past the limit.
     assert!(rt; endless.reads == 17, "{} reads", endless.reads);
-    Ok(())
+    let too_long = vec![in rt.alloc(); b'a'; 1_048_577]?;
+    compare_rules(&rt, &mut too_long.as_slice(), Err(RulesFileFault::TooLong))?;
+    compare_rules(&rt, &mut &too_long[1..], Ok(1))
 }

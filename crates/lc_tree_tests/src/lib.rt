@@ -1,5 +1,0 @@
-//! The tests of trees.
-#![tactic(auto)]
-
-#[cfg(test)]
-mod tree;
