@@ -1,5 +1,0 @@
-//! The tests of comparisons of two reports.
-#![tactic(auto)]
-
-#[cfg(test)]
-mod changes;

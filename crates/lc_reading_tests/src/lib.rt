@@ -1,5 +1,0 @@
-//! Tests of reading reports.
-#![tactic(auto)]
-
-#[cfg(test)]
-mod reading;
