@@ -1,8 +1,8 @@
 //! The tables of runs in which one call to the tree fails, such as a listing or a read. Each call that a walk makes fails in one of the
 //! runs. In further runs, the tree has a file whose reads fail.
 
-use crate::table::asking::{Board, Case, HEADER, answer_of, compare, compare_all, new_writer};
-use crate::table::runs::{FIRST_CASE, WHOLE};
+use crate::tables::asking::{Board, Case, HEADER, answer_of, compare, compare_all, new_writer};
+use crate::tables::trees::{FIRST_CASE, WHOLE};
 use lc_paths::Outcome;
 use lc_tests::tree;
 use lc_tests::trees::{FailingCall, FailingTree};

@@ -3,9 +3,4 @@
 
 mod asking;
 mod failing_calls;
-mod formats;
-mod paths;
-mod rows;
-mod runs;
-mod shares;
-mod tables;
+mod trees;

@@ -1,6 +1,6 @@
 //! Runs over trees in memory: the tables that they print, with several numbers of workers, and their errors.
 
-use crate::table::asking::{Board, Case, HEADER, Workers, answer_of, compare_all, compare_by};
+use crate::tables::asking::{Board, Case, HEADER, Workers, answer_of, compare_all, compare_by};
 use lc_paths::Outcome;
 use lc_program::RunFault;
 use lc_tests::tree;

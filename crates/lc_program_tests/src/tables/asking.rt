@@ -42,37 +42,24 @@ pub(super) enum Board {
 /// The board of a run, and its number of workers.
 pub(super) type Workers = (Board, u32);
 
-/// The options of a table with tabs, with all columns, whose rows are in the order of their keys.
-pub(super) const TSV: TableOptions = TableOptions {
-    output: Output::Text(Format::Tsv),
-    by: Columns::ALL,
-    sort: None,
-    top: None,
-    files: false,
-    share: false,
-};
-
-/// The first line of a table with the options `TSV`.
+/// The first line of each table.
 pub(super) const HEADER: &[u8] = b"ext\ttext\teol\tfiles\tlines\tblank\tbytes\n";
 
-/// Returns the options of a table for a report with these lists.
-fn listing(lists: ReportLists) -> TableOptions
-    ensures { are_of_files result.by ≡ false }
-{
-    TableOptions {
-        files: lists.files,
-        ..TSV
-    }
-}
-
-/// Returns options by which all files of a report are shown in this table.
-pub(super) fn showing_all(table: TableOptions) -> ReportOptions<'static>
-    ensures { result.table ≡ table }
+/// Returns options by which a report with these lists is shown as a table with tabs, with all columns and in the order of keys.
+fn showing(lists: ReportLists) -> ReportOptions<'static>
+    ensures { are_of_files result.table.by ≡ false }
 {
     ReportOptions {
         title: b"",
         chosen: b"",
-        table,
+        table: TableOptions {
+            output: Output::Text(Format::Tsv),
+            by: Columns::ALL,
+            sort: None,
+            top: None,
+            files: lists.files,
+            share: false,
+        },
         conditions: &[],
         attributes: &[],
         end: PathEnd::LineFeed,
@@ -111,7 +98,7 @@ fn counted<R: Threads + Wait + Sync + AllocGlobal, T: Tree>(
     requires { AreWithinLimits options.now }
 {
     let alloc = rt.alloc();
-    let shown = showing_all(listing(options.lists));
+    let shown = showing(options.lists);
     let report = match board {
         Board::Words => run(rt, alloc, tree, options, shown, out)?.report,
         Board::Locked => {

@@ -1,5 +1,0 @@
-//! The tests of tables of reports.
-#![tactic(auto)]
-
-#[cfg(test)]
-mod table;
