@@ -1,5 +1,7 @@
-//! The tests of the walk, of its rows and of its report.
+//! The tests of the boards of `lc_board`, which hand directories to worker threads, and of the walk, its rows and its report.
 #![tactic(auto)]
 
+#[cfg(test)]
+mod board;
 #[cfg(test)]
 mod walk;

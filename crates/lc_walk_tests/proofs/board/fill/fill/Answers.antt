@@ -1,7 +1,7 @@
 use Rattle.std.proofs.{Common.{◌≡◌, ◌<◌, Some, length, sym, ap, ◌∙◌}, lemmas.Option.slice_get-get_or}
 use Rattle.lc_board.specs.Pass.{holding}
 use Rattle.lc_board.proofs.ReturnedPasses.{still_in_order}
-use Rattle.lc_board_tests.proofs.board.fill.fill.Goals as goal
+use Rattle.lc_walk_tests.proofs.board.fill.fill.Goals as goal
 
 pub work_all-requires-after_bounds : goal.work_all-requires-after_bounds
 work_all-requires-after_bounds g c κs within i p low at =

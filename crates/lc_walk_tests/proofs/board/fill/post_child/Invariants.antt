@@ -1,6 +1,6 @@
 use Rattle.std.proofs.Common.{◌≡◌}
 use Rattle.lc_board.specs.Pass.{holding}
-use Rattle.lc_board_tests.proofs.board.fill.post_child.Given as goal
+use Rattle.lc_walk_tests.proofs.board.fill.post_child.Given as goal
 
 abbrev pub invariant-loop : goal.invariant-loop
 invariant-loop g l =

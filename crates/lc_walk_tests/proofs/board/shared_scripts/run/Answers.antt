@@ -1,6 +1,6 @@
 use Rattle.std.proofs.{Common.{◌<◌, length, refl, ap, arith}, lemmas.Option.slice_get_read}
 use Rattle.lc_board.proofs.ReturnedPasses.{used_in_order}
-use Rattle.lc_board_tests.proofs.board.shared_scripts.run.Goals as goal
+use Rattle.lc_walk_tests.proofs.board.shared_scripts.run.Goals as goal
 
 pub loop-call-init : goal.loop-call-init
 loop-call-init g c = (c.in_ok-board.ensures.count, λ w p at. let s = c.in_ok-board.ensures.passes w p at in (s.0, ap (λ v. v.worker) s.1))
