@@ -11,8 +11,8 @@ use Rattle.clap.specs.declared.builder.{arg.Arg.Arg, command.Command.{Command, T
 use Rattle.clap.specs.declared.builder.{value_parser.ValueParser.{ValueParser, TheVariants.Signed}}
 use Rattle.clap.specs.{declared.parser.matches.Found.Found, Simple.{App, app_of, new_rule, with_rule, with_subcommand}, Walk.Rule}
 use Rattle.clap.specs.Walk.{rule_of}
-use Rattle.lc_arguments.specs.{CommandLine.{app_with, bare_app, option_rule, rules_in, with_rules, with_subcommands}, CountArgs.AreArgsOf}
-use Rattle.lc_arguments.specs.{CountArgs.{AreCommandsOf, IsArgOf, IsBare, IsCommandOf}, Directories.are_distinct}
+use Rattle.lc_arguments.specs.CommandLine.{app_with, bare_app, lc_app, option_rule, rules_in, with_rules, with_subcommands}
+use Rattle.lc_arguments.specs.{CountArgs.{AreArgsOf, IsArgOf, IsBare, IsCommandOf}, Directories.are_distinct}
 use Rattle.lc_arguments.specs.{Options.{is_of, max_depth, max_dirs, max_threads, max_top, option_model, options}}
 use Rattle.lc_arguments.specs.{ReadNumbers.{AreCutsReadWithin, AreReadBy, AreReadWithin, ReadsWithin, parser_named}}
 use Rattle.lc_arguments.specs.declared.option_row.OptionRow.{OptionRow}
@@ -120,18 +120,17 @@ pub given : (name : List ℕ) (rules : List Rule) (bare : Command) (args : List 
     → AddsInTurn AddsArg bare args c → HasRules name rules c
 given name rules bare args c is are added = grind (arith, common_steps, fit_of, rules_are)
 
--- a command that is given subcommands in turn
-pub subcommands_in_turn : (apps : List App) (commands : List Command) → AreCommandsOf apps commands → (a : App) (old new : Command)
-    → IsCommandOf a old → AddsInTurn AddsSubcommand old commands new → IsCommandOf (with_subcommands a apps) new
-subcommands_in_turn [] [] are a old new is added = subst (IsCommandOf a) added is
-subcommands_in_turn (app ∷ apps) (c ∷ commands) are a old new is added =
-    let step = added.1 in
-    subcommands_in_turn apps commands are.1 (with_subcommand a app.top) added.0 new (
-      step.shape are.0.1 ∙ ap₂ with_subcommand is.0 (ap (λ (b : App). b.top) are.0.0),
-      step.globals ∙ ap₂ (λ (x y : Bool). x || y) is.1 are.0.1,
-    ) added.2
-subcommands_in_turn [] (c ∷ commands) are a old new is added = absurd are
-subcommands_in_turn (app ∷ apps) [] are a old new is added = absurd are
+-- a command that is `lc` once it is given these subcommands in turn
+abbrev pub LacksOf : List App → Command → Type 0
+LacksOf apps c = (with_subcommands (app_of c) apps ≡ lc_app) × ((out-Command c).has_globals ≡ false)
+
+-- and that is given the first of them
+pub lacks_others : (app : App) (apps : List App) (old sub new : Command) → LacksOf (app ∷ apps) old → IsCommandOf app sub
+    → AddsSubcommand old sub new → LacksOf apps new
+lacks_others app apps old sub new lacks is added = (
+  ap (λ (a : App). with_subcommands a apps) (added.shape is.1 ∙ ap (λ (b : App). with_subcommand (app_of old) b.top) is.0) ∙ lacks.0,
+  added.globals ∙ ap₂ (λ (x y : Bool). x || y) lacks.1 is.1,
+)
 
 -- clap sees it as the command with these rules
 pub seen_with : (name : List ℕ) (rules : List Rule) (c : Command) → HasRules name rules c → IsCommandOf (app_with name rules) c

@@ -25,13 +25,6 @@ AreArgsOf (rule ∷ rules) [] = ⊥
 abbrev pub IsCommandOf : App → Command → Type 0
 IsCommandOf app c = (app_of c ≡ app) × ((out-Command c).has_globals ≡ false)
 
--- clap reads each of the commands as its app, in their order
-abbrev pub AreCommandsOf : List App → List Command → Type 0
-AreCommandsOf [] [] = Unit {0}
-AreCommandsOf (app ∷ apps) (c ∷ commands) = IsCommandOf app c × AreCommandsOf apps commands
-AreCommandsOf [] (c ∷ commands) = ⊥
-AreCommandsOf (app ∷ apps) [] = ⊥
-
 -- a command that has no argument yet
 abbrev pub IsBare : List ℕ → Command → Type 0
 IsBare name c = IsCommandOf (bare_app name) c × (args_of c ≡ []) × (groups_of c ≡ [])

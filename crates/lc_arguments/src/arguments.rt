@@ -68,11 +68,12 @@ fn arg<'a>(alloc: Global, row: &'static OptionRow) -> Arg<'a>
 {
     let arg = with_kind(alloc, row);
     let arg = with_letter(arg, row.short);
-    let arg = with_default(arg, row.default).help(row.help);
-    if row.heading.is_empty() {
+    let texts = row.texts();
+    let arg = with_default(arg, row.default).help(texts.help);
+    if texts.heading.is_empty() {
         return arg;
     }
-    arg.long_help(row.long_help()).help_heading(row.heading)
+    arg.long_help(texts.long_help).help_heading(texts.heading)
 }
 
 /// Makes a clap argument for each of these rows that belongs to a command.

@@ -8,7 +8,7 @@ ghost use Rattle.clap.specs.Matches.{found_of};
 ghost use Rattle.clap.specs.Walk.{rows_of};
 ghost use Rattle.lc_glob.specs.Pieces.{pieces_left};
 ghost use Rattle.lc_arguments.specs.AttributeWords.{after_name, attribute_named, attributes_asked, attributes_by, column_named};
-ghost use Rattle.lc_arguments.specs.AttributeWords.{column_tested, ends_name, how_often, is_among, names_column};
+ghost use Rattle.lc_arguments.specs.AttributeWords.{column_tested, how_often, names_column};
 ghost use Rattle.lc_arguments.specs.AttributeWords.{new_names, place_of};
 ghost use Rattle.lc_arguments.specs.Explained.{AnswersAttributes};
 ghost use Rattle.lc_arguments.specs.Texts.{comma};
@@ -53,19 +53,13 @@ pub(crate) fn names_column(name: &[u8]) -> bool
     column_named(name).is_some()
 }
 
-fn ends_name(byte: u8) -> bool
-    ensures { result ≡ ends_name byte }
-{
-    matches!(byte, b' ' | b'=' | b'!' | b'<' | b'>')
-}
-
 /// Drops the name of the column from the text of a condition.
 fn after_name(text: &[u8]) -> &[u8]
     ensures { result.now ≡ after_name text.entry.now }
 {
     let mut left = text;
     'name: while let [byte, rest @ ..] = left {
-        if ends_name(*byte) {
+        if matches!(*byte, b' ' | b'=' | b'!' | b'<' | b'>') {
             return left;
         }
         left = rest;
@@ -144,12 +138,6 @@ fn attributes_by<'w>(alloc: Global, text: Option<&'w str>) -> Result<Vec<&'w str
     Ok(attributes)
 }
 
-fn is_among(attributes: &[&str], name: &str) -> bool
-    ensures { result ≡ is_among (map (λ attribute. attribute.now) attributes.now) name.now }
-{
-    count_before(name, attributes) < attributes.len()
-}
-
 /// Adds the name of the column that a condition tests, if it is `lang` or that of an attribute, unless it is there.
 fn push_tested<'w>(attributes: &mut Vec<&'w str>, text: &'w str) -> Result<(), AllocError>
     ensures { OnOk result (map (λ attribute. attribute.now) attributes.new.items
@@ -160,7 +148,7 @@ fn push_tested<'w>(attributes: &mut Vec<&'w str>, text: &'w str) -> Result<(), A
     let Some(attribute) = tested else {
         return Ok(());
     };
-    if !is_among(attributes, attribute) {
+    if count_before(attribute, attributes) >= attributes.len() {
         attributes.push(attribute)?;
     }
     Ok(())

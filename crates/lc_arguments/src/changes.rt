@@ -9,10 +9,10 @@ ghost use Rattle.lc_arguments.specs.Explained.{AnswersOneSidedIn};
 ghost use Rattle.lc_arguments.specs.Words.{values_read};
 ghost use Rattle.lc_arguments.specs.declared.repeated.Repeated.TheVariants.{Conditions};
 
-use crate::condition_text::{compares_sides, condition_of, is_change};
+use crate::condition_text::{compares_sides, condition_of};
 use crate::request::{ParseExit, refused};
 use clap::ArgMatches;
-use lc_sheet::{ChangeKinds, Value};
+use lc_sheet::{ChangeKinds, Column, Value};
 use std::alloc::Global;
 
 /// Returns whether the condition of a text allows files of this kind, such as `added`. A condition on another column allows all files.
@@ -22,7 +22,7 @@ fn allows(text: &[u8], kind: &'static str) -> bool
     let Some(condition) = condition_of(&[], text) else {
         return true;
     };
-    if !is_change(condition.column) {
+    if !matches!(condition.column, Column::Change) {
         return true;
     }
     condition.holds(Value::Word(kind))

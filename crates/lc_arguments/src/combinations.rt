@@ -1,9 +1,8 @@
 //! Options that can't be combined.
 
 ghost use Rattle.std.specs.Prelude.{◌≡◌, ◌&&◌, is_some, not};
-ghost use Rattle.lc_arguments.specs.Combinations.{asks_for_paths, asks_for_rows, boxes_fit, diff_fits, fit_together, has_one_kind};
-ghost use Rattle.lc_arguments.specs.Combinations.{is_by_name};
-ghost use Rattle.lc_arguments.specs.Combinations.{is_dash, narrows, paths_fit, reads_input_once};
+ghost use Rattle.lc_arguments.specs.Combinations.{asks_for_rows, boxes_fit, diff_fits, fit_together, has_one_kind};
+ghost use Rattle.lc_arguments.specs.Combinations.{is_dash, paths_fit, reads_input_once};
 ghost use Rattle.lc_arguments.specs.Combinations.{shows_differences, shows_shares, sum_fits, table_fits, takes_input, walk_fits};
 
 use crate::count::CountRequest;
@@ -11,7 +10,7 @@ use crate::diff::DiffRequest;
 use crate::sum::SumRequest;
 use crate::table::TableRequest;
 use crate::walk_request::WalkRequest;
-use lc_sheet::{Columns, Format, Order, Output};
+use lc_sheet::{Format, Order, Output};
 
 /// Returns whether the format of `--format` can show each row's share of the total. Without `--format`, `--share` selects the format
 /// `Table`, which can show shares.
@@ -24,29 +23,12 @@ fn shows_shares(format: Option<Output>) -> bool
     )
 }
 
-/// Returns whether `--sort` names the order by name, which sorts by no number.
-fn is_by_name(order: Option<Order>) -> bool
-    ensures { result ≡ is_by_name order }
-{
-    matches!(order, Some(Order::Name))
-}
-
-/// Returns whether `--by` names a different set of columns than ext, text and eol, the columns of a report's rows.
-fn narrows(by: Option<Columns>) -> bool
-    ensures { result ≡ narrows by }
-{
-    match by {
-        None => false,
-        Some(by) => !by.are_all(),
-    }
-}
-
-/// Returns whether a table lists files or skipped entries, is limited by `--top`, or has other columns than a report's rows. `left_out` is
-/// whether skipped entries are listed.
+/// Returns whether a table lists files or skipped entries, is limited by `--top`, or has other columns than ext, text and eol, the columns
+/// of a report's rows. `left_out` is whether skipped entries are listed.
 fn asks_for_rows(table: TableRequest, left_out: bool) -> bool
     ensures { result ≡ asks_for_rows table left_out }
 {
-    table.files || left_out || table.top.is_some() || narrows(table.by)
+    table.files || left_out || table.top.is_some() || matches!(table.by, Some(by) if !by.are_all())
 }
 
 /// Returns the error if a format that has records of one kind is to list files and skipped entries.
@@ -82,7 +64,7 @@ fn boxes_misfit(table: TableRequest, left_out: bool) -> Option<&'static str>
             "'--format html' draws a tree: no '--files', '--left-out', '--by <COLUMNS>' or '--top <N>'"
         });
     }
-    if is_by_name(table.sort) {
+    if matches!(table.sort, Some(Order::Name)) {
         return Some(if is_tree {
             "'--format tree' draws the column of '--sort': files, lines, blank or bytes"
         } else {
@@ -118,18 +100,12 @@ fn walk_misfit(walk: &WalkRequest<'_>) -> Option<&'static str>
     None
 }
 
-/// Returns whether `--only` or `--only-from` chooses paths, which are relative to one DIR.
-fn asks_for_paths(walk: &WalkRequest<'_>) -> bool
-    ensures { result ≡ asks_for_paths walk.now }
-{
-    !walk.only.is_empty() || walk.only_from.is_some()
-}
-
-/// Returns the error if `--only` or `--only-from` is combined with several DIRs.
+/// Returns the error if `--only` or `--only-from` is combined with several DIRs. They choose paths, which are relative to one DIR.
 fn paths_misfit(request: &CountRequest<'_>) -> Option<&'static str>
     ensures { is_some result ≡ not (paths_fit request.now) }
 {
-    if request.directories.len() > 1 && asks_for_paths(&request.walk) {
+    let walk = &request.walk;
+    if request.directories.len() > 1 && (!walk.only.is_empty() || walk.only_from.is_some()) {
         return Some(
             "'--only <PATH>' and '--only-from <FILE>' need one DIR, because a PATH is relative to it",
         );

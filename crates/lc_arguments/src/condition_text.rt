@@ -2,9 +2,9 @@
 
 ghost use Rattle.std.specs.Prelude.{◌≡◌, map, option_map};
 ghost use Rattle.lc_arguments.specs.Texts.{after_front};
-ghost use Rattle.lc_arguments.specs.ConditionWords.{can_have, can_have_all, compares_sides, is_change};
+ghost use Rattle.lc_arguments.specs.ConditionWords.{can_have, can_have_all, compares_sides};
 ghost use Rattle.lc_arguments.specs.ConditionWords.{column_among, column_at, comparison_of, condition_columns, condition_of};
-ghost use Rattle.lc_arguments.specs.ConditionWords.{condition_with, is_after_dot, list_condition, number_in, operator_at};
+ghost use Rattle.lc_arguments.specs.ConditionWords.{is_after_dot, list_condition, number_in, operator_at};
 ghost use Rattle.lc_arguments.specs.ConditionWords.{digits_from, is_digit, with_digit, without_spaces};
 
 use crate::attributes::{column_tested, place_of};
@@ -209,9 +209,14 @@ fn list_condition(column: Column, comparison: Comparison, texts: &[u8]) -> Optio
     }
 }
 
-fn condition_with(column: Column, comparison: Comparison, values: &[u8]) -> Option<Condition<'_>>
-    ensures { result ≡ condition_with column comparison values.entry.now }
+/// Reads a condition, such as `eol=crlf,mixed` or `lines > 1000`. The places of columns of attributes and of languages are those among
+/// `attributes`.
+pub(crate) fn condition_of<'w>(attributes: &[&str], text: &'w [u8]) -> Option<Condition<'w>>
+    ensures { result ≡ condition_of (map (λ attribute. attribute.now) attributes.now) text.entry.now }
 {
+    let (column, rest) = column_at(attributes, text)?;
+    let (comparison, values) = operator_at(without_spaces(rest))?;
+    let values = without_spaces(values);
     match column {
         Column::Number(_) => Some(Condition {
             column,
@@ -221,31 +226,11 @@ fn condition_with(column: Column, comparison: Comparison, values: &[u8]) -> Opti
     }
 }
 
-/// Returns whether a column is `change`, which says what became of a file.
-pub(crate) fn is_change(column: Column) -> bool
-    ensures { result ≡ is_change column }
-{
-    matches!(column, Column::Change)
-}
-
-/// Reads a condition, such as `eol=crlf,mixed` or `lines > 1000`. The places of columns of attributes and of languages are those among
-/// `attributes`.
-pub(crate) fn condition_of<'w>(attributes: &[&str], text: &'w [u8]) -> Option<Condition<'w>>
-    ensures { result ≡ condition_of (map (λ attribute. attribute.now) attributes.now) text.entry.now }
-{
-    let (column, rest) = column_at(attributes, text)?;
-    let (comparison, values) = operator_at(without_spaces(rest))?;
-    condition_with(column, comparison, without_spaces(values))
-}
-
 /// Returns whether the column of a text is `change`, which compares two sides.
 pub(crate) fn compares_sides(text: &[u8]) -> bool
     ensures { result ≡ compares_sides text.now }
 {
-    match column_at(&[], text) {
-        None => false,
-        Some((column, _)) => is_change(column),
-    }
+    matches!(column_at(&[], text), Some((Column::Change, _)))
 }
 
 /// Returns the end of a usage error about a column: the operators and values that a condition on the column can have.
@@ -277,10 +262,11 @@ pub(crate) fn why_no_condition(text: &[u8]) -> &'static str {
     if text.starts_with(b"size") {
         return ": the column of a file's size is bytes";
     }
-    if !text
-        .iter()
-        .any(|byte| matches!(*byte, b'!' | b'<' | b'=' | b'>'))
-    {
+    let has_operator = text.contains(&b'=')
+        || text.contains(&b'!')
+        || text.contains(&b'<')
+        || text.contains(&b'>');
+    if !has_operator {
         return ": it has no operator; quote a condition, as in --where 'lines>1000'";
     }
     let (tested, _) = column_tested(text);

@@ -3,27 +3,15 @@
 ghost use Rattle.std.specs.Prelude.{◌≡◌, ◌∷◌, ◌++◌, [], map, IfOk, OnOk};
 ghost use Rattle.clap.specs.Matches.{found_of};
 ghost use Rattle.clap.specs.Walk.{rows_of};
-ghost use Rattle.lc_arguments.specs.ConditionWords.{all_conditions, conditions_of, file_condition_of, not_binary};
+ghost use Rattle.lc_arguments.specs.ConditionWords.{all_conditions, conditions_of};
 ghost use Rattle.lc_arguments.specs.Explained.{AnswersConditions};
 
-use crate::condition_text::{condition_of, is_change};
+use crate::condition_text::condition_of;
 use crate::repeated::{Repeated, values_in};
 use crate::request::ParseExit;
 use clap::ArgMatches;
 use lc_sheet::{Column, Condition, Key, Test};
 use std::alloc::{AllocError, Global};
-
-/// Reads the condition of a text, unless the condition is on `change`.
-fn file_condition_of<'w>(attributes: &[&str], text: &'w [u8]) -> Option<Condition<'w>>
-    ensures { result ≡ file_condition_of (map (λ attribute. attribute.now) attributes.now) text.entry.now }
-{
-    let condition = condition_of(attributes, text)?;
-    if is_change(condition.column) {
-        None
-    } else {
-        Some(condition)
-    }
-}
 
 /// Appends the condition of a text, unless the text is no condition or the condition is on `change`.
 fn push_condition<'w>(
@@ -34,20 +22,13 @@ fn push_condition<'w>(
     ensures { OnOk result (conditions.new.items
         ≡ conditions.old.items ++ conditions_of (map (λ attribute. attribute.now) attributes.now) (text.entry.now ∷ [])) }
 {
-    if let Some(condition) = file_condition_of(attributes, text.as_bytes()) {
+    let Some(condition) = condition_of(attributes, text.as_bytes()) else {
+        return Ok(());
+    };
+    if !matches!(condition.column, Column::Change) {
         conditions.push(condition)?;
     }
     Ok(())
-}
-
-/// Makes the condition that a file is not binary.
-fn not_binary<'w>() -> Condition<'w>
-    ensures { result ≡ not_binary }
-{
-    Condition {
-        column: Column::Key(Key::Eol),
-        test: Test::NoneOf(b"nul"),
-    }
 }
 
 /// Reads the conditions in some texts, and adds the condition of `--no-binary` if that option was used.
@@ -65,7 +46,10 @@ fn all_conditions<'w>(
         push_condition(attributes, &mut conditions, text)?;
     }
     if no_binary {
-        conditions.push(not_binary())?;
+        conditions.push(Condition {
+            column: Column::Key(Key::Eol),
+            test: Test::NoneOf(b"nul"),
+        })?;
     }
     Ok(conditions)
 }

@@ -6,9 +6,9 @@ ghost use Rattle.std.specs.Str.{bytes_eq};
 ghost use Rattle.clap.specs.Matches.{found_of};
 ghost use Rattle.clap.specs.Walk.{rows_of};
 ghost use Rattle.lc_arguments.specs.Directories.{are_distinct, or_default, unslashed};
-ghost use Rattle.lc_arguments.specs.Explained.{AnswersDirectoriesIn, IsRefusal};
+ghost use Rattle.lc_arguments.specs.Explained.{AnswersDirectoriesIn};
 
-use crate::request::{ParseExit, unfit};
+use crate::request::{ParseExit, unfit_word};
 use clap::ArgMatches;
 use std::alloc::{AllocError, Global};
 
@@ -54,16 +54,6 @@ fn given_twice<'w>(directories: &[&'w str]) -> Option<&'w str>
     None
 }
 
-/// Makes the refusal of a directory that is named twice.
-fn repeated(alloc: Global, directory: &str) -> ParseExit
-    ensures { IsRefusal result }
-{
-    match format!(in alloc; "'{directory}' is given twice: each directory is counted once") {
-        Ok(why) => unfit(alloc, &why),
-        Err(AllocError) => ParseExit::Memory,
-    }
-}
-
 /// Returns a copy of the words, or `default` alone if there are no words.
 pub(crate) fn or_default<'w>(
     alloc: Global,
@@ -91,6 +81,9 @@ pub(crate) fn directories_in<'w>(
     };
     match given_twice(&directories) {
         None => Ok(directories),
-        Some(directory) => Err(repeated(alloc, directory)),
+        Some(directory) => {
+            let why = " is given twice: each directory is counted once";
+            Err(unfit_word(alloc, "", directory, why))
+        }
     }
 }

@@ -47,20 +47,6 @@ fn value_named(option: &str) -> (&'static str, Completes) {
     ("", Completes::Nothing)
 }
 
-/// Appends the list of possible values, if only certain words are allowed.
-fn push_possible(text: &mut String, completes: Completes) -> Result<(), AllocError> {
-    let Completes::Meanings(words) = completes else {
-        return Ok(());
-    };
-    text.push_str("\n  [possible values")?;
-    let mut before = ": ";
-    for (word, _) in words {
-        write!(text, "{before}{word}")?;
-        before = ", ";
-    }
-    text.push_str("]")
-}
-
 /// Makes the text that refuses a value of an option. `option` is the option's name without its hyphens.
 ///
 /// ```
@@ -77,7 +63,14 @@ pub(crate) fn value_refused(
     let mut text = format!(in alloc;
         "error: invalid value '{value}' for '--{option} <{name}>'{why}"
     )?;
-    push_possible(&mut text, completes)?;
+    if let Completes::Meanings(words) = completes {
+        let mut before = "\n  [possible values: ";
+        for (word, _) in words {
+            write!(text, "{before}{word}")?;
+            before = ", ";
+        }
+        text.push_str("]")?;
+    }
     push_meant(&mut text, alloc, option, value, completes)?;
     text.push_str("\n\nFor more information, try '--help'.\n")?;
     Ok(text)

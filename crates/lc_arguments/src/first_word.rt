@@ -2,16 +2,10 @@
 
 ghost use Rattle.std.specs.Prelude.{◌≡◌, map, option_map};
 ghost use Rattle.lc_arguments.specs.Naming.{may_be_directory};
-ghost use Rattle.lc_arguments.specs.Words.{begins_count, begins_with_hyphen, count_words, is_own_option, is_plain_path};
+ghost use Rattle.lc_arguments.specs.Words.{begins_count, count_words, is_own_option};
 
 use crate::naming::named_command;
 use std::convert::AsStr;
-
-fn begins_with_hyphen(word: &str) -> bool
-    ensures { result ≡ begins_with_hyphen word.now }
-{
-    matches!(word.as_bytes(), [b'-', ..])
-}
 
 /// Returns whether an argument is an option for the program's own help or version.
 fn is_own_option(word: &str) -> bool
@@ -20,18 +14,13 @@ fn is_own_option(word: &str) -> bool
     word == "-h" || word == "--help" || word == "-V" || word == "--version"
 }
 
-/// Returns whether an argument is a path that can be no command: `.`, `..`, or one with a slash.
-fn is_plain_path(word: &str) -> bool
-    ensures { result ≡ is_plain_path word.now }
-{
-    word == "." || word == ".." || word.as_bytes().contains(&b'/')
-}
-
-/// Returns whether a first argument begins a count that is typed without the word `count`.
+/// Returns whether a first argument begins a count that is typed without the word `count`. The argument is an option of `lc count`, or a
+/// path that can be no command: `.`, `..` or one with a slash.
 fn begins_count(word: &str) -> bool
     ensures { result ≡ begins_count word.now }
 {
-    (begins_with_hyphen(word) && !is_own_option(word)) || is_plain_path(word)
+    let is_option = matches!(word.as_bytes(), [b'-', ..]) && !is_own_option(word);
+    is_option || word == "." || word == ".." || word.as_bytes().contains(&b'/')
 }
 
 /// Returns the arguments of `lc count`, or `None` if the program's arguments request no count. If the first argument is `count`, the

@@ -23,11 +23,10 @@
 //! - `combinations`: options that can't be combined
 //! - `options_table`: the table of options
 //! - `option_row`: the type of a row of the table of options
-//! - `diff_options`: the rows of the table of options that only `lc diff` uses
+//! - `option_texts`: the texts that help, completions and suggestions show about the options
 //! - `arguments`: clap's arguments, made from the table of options
 //! - `subcommand`: the commands, as clap parses their arguments
 //! - `help`: the texts of help and of the version
-//! - `long_help`: the texts that `--help` shows about the options
 //! - `error_text`: the texts of usage errors
 //! - `refusals`: escaping the texts of usage errors for a terminal
 //! - `naming`: checking that the help of a command names each argument of the command, and that a usage error names an argument
@@ -45,7 +44,6 @@ mod condition_text;
 mod conditions;
 mod count;
 mod diff;
-mod diff_options;
 mod directories;
 mod error_text;
 mod explain;
@@ -53,11 +51,11 @@ mod filter_request;
 mod first_word;
 mod help;
 mod limits;
-mod long_help;
 mod naming;
 mod near;
 mod numbers;
 mod option_row;
+mod option_texts;
 mod options_table;
 mod other_tools;
 mod paths;
@@ -80,6 +78,7 @@ pub use filter_request::FilterRequest;
 pub use first_word::{count_words, may_be_directory};
 pub use limits::{MAX_DIRS, MAX_THREADS};
 pub use option_row::{Commands, Completes, Kind, OptionRow};
+pub use option_texts::OptionTexts;
 pub use options_table::options;
 pub use repeated::lines_text;
 pub use reports::NamedReport;

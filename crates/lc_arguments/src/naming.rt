@@ -16,25 +16,15 @@ use lc_text::push_visible;
 use std::alloc::{AllocError, Global};
 use std::convert::AsStr;
 
-/// Returns what a message of clap has before the name of an argument, such as `--` or `<`.
-fn mark_before(kind: Kind) -> &'static str
-    ensures { result.now ≡ mark_before kind }
+/// Returns what a message of clap has before and after the name of an argument, such as `<` and `>`.
+fn marks(kind: Kind) -> (&'static str, &'static str)
+    ensures before { result.0.now ≡ mark_before kind }
+    ensures after { result.1.now ≡ mark_after kind }
 {
     match kind {
-        Kind::Flag | Kind::Text | Kind::Texts | Kind::Number(_) => "--",
-        Kind::Word => "<",
-        Kind::Words => "[",
-    }
-}
-
-/// Returns what a message of clap has after the name of an argument, such as `>`.
-fn mark_after(kind: Kind) -> &'static str
-    ensures { result.now ≡ mark_after kind }
-{
-    match kind {
-        Kind::Flag | Kind::Text | Kind::Texts | Kind::Number(_) => "",
-        Kind::Word => ">",
-        Kind::Words => "]",
+        Kind::Flag | Kind::Text | Kind::Texts | Kind::Number(_) => ("--", ""),
+        Kind::Word => ("<", ">"),
+        Kind::Words => ("[", "]"),
     }
 }
 
@@ -49,9 +39,10 @@ fn has(text: &str, part: &str) -> bool
 fn names(alloc: Global, text: &str, row: &OptionRow) -> Result<bool, AllocError>
     ensures { IfOk result (λ named. named ≡ true → Names text.now (option_model row.now)) }
 {
-    let mut marked = String::from_str(alloc, mark_before(row.kind))?;
+    let (before, after) = marks(row.kind);
+    let mut marked = String::from_str(alloc, before)?;
     marked.push_str(row.name)?;
-    marked.push_str(mark_after(row.kind))?;
+    marked.push_str(after)?;
     Ok(has(text, marked.as_str()))
 }
 

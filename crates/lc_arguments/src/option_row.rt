@@ -154,8 +154,8 @@ pub enum Completes {
     List(&'static [&'static str]),
 }
 
-/// An option or a positional argument of one or more commands: how clap reads it, and what help, usage errors, the manual page and
-/// completions show about it.
+/// An option or a positional argument of one or more commands: how clap reads it, and its name and value in help. Its other texts are
+/// [`OptionTexts`](crate::OptionTexts).
 #[derive(Clone, Copy)]
 pub struct OptionRow {
     /// The long name of an option without the hyphens, or the name of a positional argument, such as `DIR`.
@@ -170,14 +170,6 @@ pub struct OptionRow {
     pub default: Option<&'static str>,
     /// The commands that have the argument.
     pub of: Commands,
-    /// The heading above the option in help. A positional argument has an empty heading.
-    pub heading: &'static str,
-    /// The line that `-h` shows about the argument.
-    pub help: &'static str,
-    /// The text that completions show next to the option. If this text is empty, completions show the text in the field `help`.
-    pub brief: &'static str,
-    /// The command that `lc count` suggests if the name of an unknown option is close to the name of this option.
-    pub example: &'static str,
     /// What a shell offers to complete the value.
     pub completes: Completes,
 }
@@ -190,9 +182,5 @@ pub(crate) const FLAG: OptionRow = OptionRow {
     kind: Kind::Flag,
     default: None,
     of: COUNT,
-    heading: "",
-    help: "",
-    brief: "",
-    example: "",
     completes: Completes::Nothing,
 };

@@ -293,9 +293,14 @@ fn is_listed(option: &str, word: &str) -> bool {
     false
 }
 
+/// Returns whether a word is an extension without its dot: letters and digits, of which the first is a letter.
 fn is_extension(word: &str) -> bool {
+    for byte in word.as_bytes() {
+        if !byte.is_ascii_alphanumeric() {
+            return false;
+        }
+    }
     matches!(word.as_bytes(), [first, ..] if first.is_ascii_alphabetic())
-        && word.bytes().all(|byte| byte.is_ascii_alphanumeric())
 }
 
 /// Returns whether a terminal shows an argument unchanged, so that it can be typed again.
@@ -320,23 +325,18 @@ impl ValueOption {
             Takes::Word => is_shown_as_typed(alloc, value),
         }
     }
-
-    /// Makes the count that asks for the same.
-    fn count_with(&self, alloc: Global, value: &str) -> Result<String, AllocError> {
-        let (option, front) = (self.option, self.front);
-        let mut command = format!(in alloc; "lc count --{option} ")?;
-        let word = format!(in alloc; "{front}{value}")?;
-        push_quoted(&mut command, &word)?;
-        command.push_str(" .")?;
-        Ok(command)
-    }
 }
 
 /// Finds the count that an option of another tool with this value may have meant.
 fn value_meant(alloc: Global, option: &str, value: &str) -> Result<Option<String>, AllocError> {
     for row in VALUES {
         if row.names.contains(&option) && row.fits(alloc, value)? {
-            return Ok(Some(row.count_with(alloc, value)?));
+            let (name, front) = (row.option, row.front);
+            let mut command = format!(in alloc; "lc count --{name} ")?;
+            let word = format!(in alloc; "{front}{value}")?;
+            push_quoted(&mut command, &word)?;
+            command.push_str(" .")?;
+            return Ok(Some(command));
         }
     }
     Ok(None)
@@ -349,7 +349,10 @@ pub(crate) fn pair_meant<W: AsStr>(
 ) -> Result<Option<String>, AllocError> {
     let mut left = words;
     'words: while let Some((first, others)) = left.split_first() {
-        let next = others.first().map_or("", |word| word.as_str());
+        let next = match others {
+            [next, ..] => next.as_str(),
+            [] => "",
+        };
         let (option, value) = first
             .as_str()
             .split_once('=')

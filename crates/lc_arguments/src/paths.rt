@@ -3,25 +3,13 @@
 ghost use Rattle.std.specs.Prelude.{◌≡◌, map};
 ghost use Rattle.clap.specs.Matches.{found_of};
 ghost use Rattle.clap.specs.Walk.{rows_of};
-ghost use Rattle.lc_arguments.specs.Explained.{AnswersPaths, AnswersPathsIn, IsRefusal};
+ghost use Rattle.lc_arguments.specs.Explained.{AnswersPaths, AnswersPathsIn};
 ghost use Rattle.lc_arguments.specs.Words.{is_bad_part, part_of};
 
 use crate::request::{ParseExit, refused};
 use clap::ArgMatches;
 use lc_text::{is_bad_path, is_top, split_slash, undotted};
 use std::alloc::Global;
-
-/// Makes the refusal of a value that is not a path below DIR.
-fn misplaced(alloc: Global, word: &str) -> ParseExit
-    ensures { IsRefusal result }
-{
-    refused(
-        alloc,
-        "only",
-        word,
-        ": expected a path relative to DIR, such as src/lib",
-    )
-}
 
 /// Returns the path that a value of `--only` names: without any `./` at its beginning and without a slash at its end.
 fn part_of(word: &str) -> &[u8]
@@ -47,7 +35,12 @@ fn paths_of<'w>(alloc: Global, words: &[&'w str]) -> Result<Vec<&'w [u8]>, Parse
     for word in words {
         let path = part_of(word);
         if is_bad_part(path) {
-            return Err(misplaced(alloc, word));
+            return Err(refused(
+                alloc,
+                "only",
+                word,
+                ": expected a path relative to DIR, such as src/lib",
+            ));
         }
         let Ok(()) = paths.push(path) else {
             return Err(ParseExit::Memory);

@@ -5,8 +5,7 @@ ghost use Rattle.std.specs.Prelude.{◌≡◌, map, not, is_some, IfOk};
 ghost use Rattle.std.specs.List.{list_all};
 ghost use Rattle.clap.specs.Matches.{found_of};
 ghost use Rattle.clap.specs.Walk.{rows_of};
-ghost use Rattle.lc_rules.specs.AttrLines.{is_negated};
-ghost use Rattle.lc_arguments.specs.Repeated.{are_short, has_attribute_name, has_one_line, id_of, is_allowed, lines_text};
+ghost use Rattle.lc_arguments.specs.Repeated.{are_short, has_one_line, id_of, is_allowed, lines_text};
 ghost use Rattle.lc_arguments.specs.Explained.{AnswersRepeated, AnswersRepeatedIn, IsRefusal};
 
 use crate::attributes::attributes_asked;
@@ -33,24 +32,10 @@ pub(crate) enum Repeated {
     Conditions,
 }
 
-/// Returns whether a word is `ATTR` or `ATTR=VALUE`, where `ATTR` can be the name of an attribute.
-fn has_attribute_name(word: &str) -> bool
-    ensures { result ≡ has_attribute_name word.now }
-{
-    let (name, _) = cut_at_first(b'=', word.as_bytes());
-    is_attribute_name(name)
-}
-
 fn has_one_line(pattern: &str) -> bool
     ensures { result ≡ has_one_line pattern.now }
 {
     !pattern.as_bytes().contains(&b'\n')
-}
-
-fn is_negated(pattern: &str) -> bool
-    ensures { result ≡ is_negated pattern.now }
-{
-    matches!(pattern.as_bytes(), [b'!', ..])
 }
 
 impl Repeated {
@@ -69,9 +54,12 @@ impl Repeated {
         ensures { result ≡ is_allowed self value.now }
     {
         match self {
-            Repeated::Attributes => has_attribute_name(value),
+            Repeated::Attributes => {
+                let (name, _) = cut_at_first(b'=', value.as_bytes());
+                is_attribute_name(name)
+            }
             Repeated::Excluded => has_one_line(value),
-            Repeated::Included => has_one_line(value) && !is_negated(value),
+            Repeated::Included => { has_one_line(value) && !matches!(value.as_bytes(), [b'!', ..]) }
             Repeated::Conditions => condition_of(&[], value.as_bytes()).is_some(),
         }
     }

@@ -4,11 +4,11 @@ ghost use Rattle.std.specs.Prelude.{◌≡◌, IfOk, is_some, map, not, option_m
 ghost use Rattle.std.specs.List.{find, list_all, list_any};
 ghost use Rattle.clap.specs.Matches.{found_of};
 ghost use Rattle.clap.specs.Walk.{rows_of};
-ghost use Rattle.lc_arguments.specs.Explained.{AnswersReports, AnswersReportsIn, IsRefusal};
+ghost use Rattle.lc_arguments.specs.Explained.{AnswersReports, AnswersReportsIn};
 ghost use Rattle.lc_arguments.specs.Reports.{is_good_report, is_input, named_of, read_input_once, report_model};
 
 use crate::directories::or_default;
-use crate::request::{ParseExit, unfit};
+use crate::request::{ParseExit, unfit_word};
 use clap::ArgMatches;
 use lc_glob::path::is_good_name;
 use std::alloc::{AllocError, Global};
@@ -106,18 +106,6 @@ fn second_input<'w>(words: &[&'w str]) -> Option<&'w str>
     None
 }
 
-/// Makes the refusal of a word that is not a valid `[NAME=]REPORT`.
-fn misnamed(alloc: Global, word: &str) -> ParseExit
-    ensures { IsRefusal result }
-{
-    match format!(in alloc;
-        "invalid value '{word}' for '[NAME=]REPORT': a REPORT is not empty, and a NAME is not empty, '.' or '..'"
-    ) {
-        Ok(why) => unfit(alloc, &why),
-        Err(AllocError) => ParseExit::Memory,
-    }
-}
-
 /// Reads words, each of which is a valid `[NAME=]REPORT`.
 fn named<'w>(alloc: Global, words: &[&'w str]) -> Result<Vec<NamedReport<'w>>, AllocError>
     ensures { IfOk result (λ reports. map report_model reports.items ≡ map (λ word. named_of word.now) words.now) }
@@ -134,13 +122,16 @@ fn reports_of<'w>(alloc: Global, words: &[&'w str]) -> Result<Vec<NamedReport<'w
     ensures { AnswersReports (map (λ word. word.now) words.now) result }
 {
     if let Some(word) = first_bad(words) {
-        return Err(misnamed(alloc, word));
+        return Err(unfit_word(
+            alloc,
+            "invalid value ",
+            word,
+            " for '[NAME=]REPORT': a REPORT is not empty, and a NAME is not empty, '.' or '..'",
+        ));
     }
     if let Some(word) = second_input(words) {
-        return match format!(in alloc; "'{word}' is standard input again, which is read once") {
-            Ok(why) => Err(unfit(alloc, &why)),
-            Err(AllocError) => Err(ParseExit::Memory),
-        };
+        let why = " is standard input again, which is read once";
+        return Err(unfit_word(alloc, "", word, why));
     }
     match named(alloc, words) {
         Ok(reports) => Ok(reports),

@@ -1,8 +1,8 @@
 //! The requests that the arguments of the program make.
 
 ghost use Rattle.std.specs.Prelude.{◌≡◌, IfErr, IfOk, None, map, string_bytes};
-ghost use Rattle.lc_arguments.specs.CommandLine.{bare_lc_app, lc_app, subcommand_apps};
-ghost use Rattle.lc_arguments.specs.CountArgs.{AreCommandsOf, IsCommandOf};
+ghost use Rattle.lc_arguments.specs.CommandLine.{lc_app};
+ghost use Rattle.lc_arguments.specs.CountArgs.{IsCommandOf};
 ghost use Rattle.lc_arguments.specs.Explained.{Explains, IsRefusal, AnswersOthers};
 ghost use Rattle.lc_arguments.specs.Naming.{IsNamingError, NamesArguments};
 ghost use Rattle.lc_arguments.specs.Refusals.{IsMessage, IsRefusedVisibly};
@@ -55,36 +55,30 @@ pub enum ParseExit {
     Memory,
 }
 
-fn bare<'a>(alloc: Global) -> Result<Command<'a>, AllocError>
-    ensures { IfOk result (IsCommandOf bare_lc_app) }
-{
-    let command = arguments::bare(alloc, "lc", help::LC)?;
-    Ok(
-        command
-            .version(help::VERSION)
-            .long_version(help::LONG_VERSION),
-    )
-}
-
-fn subcommands<'a>(alloc: Global) -> Result<Vec<Command<'a>>, AllocError>
-    ensures { IfOk result (λ commands. AreCommandsOf subcommand_apps commands.items) }
-{
-    let count = Subcommand::Count.command(alloc)?;
-    let check = Subcommand::Check.command(alloc)?;
-    let explain = Subcommand::Explain.command(alloc)?;
-    let sum = Subcommand::Sum.command(alloc)?;
-    let diff = Subcommand::Diff.command(alloc)?;
-    let languages = Subcommand::Languages.command(alloc)?;
-    Ok(vec![in alloc; count, sum, diff, check, explain, languages]?)
-}
+/// The commands, in the order in which the help of `lc` lists them.
+const COMMANDS: &[Subcommand] = &[
+    Subcommand::Count,
+    Subcommand::Sum,
+    Subcommand::Diff,
+    Subcommand::Check,
+    Subcommand::Explain,
+    Subcommand::Languages,
+];
 
 /// Makes the clap command of the program, for help, the version, and arguments without a command.
 fn command<'a>(alloc: Global) -> Result<Command<'a>, AllocError>
     ensures { IfOk result (IsCommandOf lc_app) }
 {
-    let subcommands = subcommands(alloc)?;
-    let command = bare(alloc)?;
-    command.subcommands(subcommands)
+    let mut command = arguments::bare(alloc, "lc", help::LC)?
+        .version(help::VERSION)
+        .long_version(help::LONG_VERSION);
+    let mut left = COMMANDS;
+    'commands: while let Some((first, others)) = left.split_first() {
+        let subcommand = first.command(alloc)?;
+        command = command.subcommand(subcommand)?;
+        left = others;
+    }
+    Ok(command)
 }
 
 /// Makes the text of an error of clap. If an argument or a value is missing, or an argument is unknown, the text has the usage of the
@@ -143,6 +137,18 @@ pub(crate) fn unfit(alloc: Global, why: &str) -> ParseExit
     }
 }
 
+/// Makes the refusal of a positional argument. The text has `before`, the argument in quotes, and `after`.
+pub(crate) fn unfit_word(alloc: Global, before: &str, word: &str, after: &str) -> ParseExit
+    ensures { IsRefusal result }
+{
+    match format!(in alloc;
+        "error: {before}'{word}'{after}\n\nFor more information, try '--help'.\n"
+    ) {
+        Ok(text) => ParseExit::Refused(text),
+        Err(AllocError) => ParseExit::Memory,
+    }
+}
+
 /// Reads arguments that name no command.
 fn read_others<'w, W: AsStr>(alloc: Global, words: &'w [W]) -> Result<Request<'w>, ParseExit>
     ensures { AnswersOthers (map W.text words.entry.now) result }
@@ -153,13 +159,10 @@ fn read_others<'w, W: AsStr>(alloc: Global, words: &'w [W]) -> Result<Request<'w
     match command.try_get_matches_from(words) {
         // clap accepts no arguments and `--`. `read_words` and `count_words` read both elsewhere.
         Ok(_) => Ok(Request::CheckJoined),
-        Err(error) => {
-            let first = words.first().map_or("", |word| word.as_str());
-            match suggestions::command(alloc, first, words) {
-                Ok(advice) => Err(explained(alloc, &error, help::LC.usage, &advice)),
-                Err(AllocError) => Err(ParseExit::Memory),
-            }
-        }
+        Err(error) => match suggestions::command(alloc, words) {
+            Ok(advice) => Err(explained(alloc, &error, help::LC.usage, &advice)),
+            Err(AllocError) => Err(ParseExit::Memory),
+        },
     }
 }
 

@@ -49,18 +49,10 @@ pub(crate) struct Advice {
     pub(crate) example: String,
 }
 
-/// Makes advice without a tip.
-fn example(alloc: Global, command: &str) -> Result<Advice, AllocError> {
+/// Makes advice with a command that works.
+fn advise(alloc: Global, tip: Option<String>, command: &str) -> Result<Advice, AllocError> {
     Ok(Advice {
-        tip: None,
-        example: format!(in alloc; "Example: {command}")?,
-    })
-}
-
-/// Makes advice with a tip.
-fn with_tip(alloc: Global, tip: String, command: &str) -> Result<Advice, AllocError> {
-    Ok(Advice {
-        tip: Some(tip),
+        tip,
         example: format!(in alloc; "Example: {command}")?,
     })
 }
@@ -70,7 +62,7 @@ fn example_of(quoted: &str) -> Option<&'static str> {
     let (option, _) = quoted.split_once(" <")?;
     for row in options() {
         if row.of.has(Subcommand::Count) && option.strip_prefix("--") == Some(row.name) {
-            return Some(row.example);
+            return Some(row.texts().example);
         }
     }
     None
@@ -81,10 +73,8 @@ fn option_meant(option: &str) -> Option<&'static str> {
     if !option.starts_with('-') {
         return None;
     }
-    match word_meant(option) {
-        Some(meant) => Some(meant),
-        None => example_of(option),
-    }
+    let meant = word_meant(option).or(example_of(option));
+    meant.or(example_meant(option))
 }
 
 /// Returns the refused argument, or the part of it, that clap's message quotes.
@@ -107,9 +97,10 @@ fn known_options(
 ) -> Result<Vec<(&'static str, &'static str)>, AllocError> {
     let mut known = Vec::new(alloc);
     for row in options() {
-        if row.of.has(command) && !row.heading.is_empty() {
+        let texts = row.texts();
+        if row.of.has(command) && !texts.heading.is_empty() {
             let meant = match command {
-                Subcommand::Count => row.example,
+                Subcommand::Count => texts.example,
                 _ => other,
             };
             known.push((row.name, meant))?;
@@ -129,14 +120,14 @@ fn option_or(
     other: &'static str,
 ) -> Result<Advice, AllocError> {
     if !unknown.starts_with("--") {
-        return example(alloc, other);
+        return advise(alloc, None, other);
     }
     let known = known_options(alloc, command, other)?;
     let Some((name, meant)) = near_name(alloc, unknown, &known)? else {
-        return example(alloc, other);
+        return advise(alloc, None, other);
     };
     let tip = format!(in alloc; "a similar argument exists: '--{name}'")?;
-    with_tip(alloc, tip, meant)
+    advise(alloc, Some(tip), meant)
 }
 
 /// Makes the advice for refused arguments of `lc count`: a count that the user may have meant. `problem` is clap's message.
@@ -147,24 +138,22 @@ fn option_or(
 /// ```
 fn count<W: AsStr>(alloc: Global, words: &[W], problem: &str) -> Result<Advice, AllocError> {
     if let Some(pair) = pair_meant(alloc, words)? {
-        return example(alloc, &pair);
+        return advise(alloc, None, &pair);
     }
-    if let Some(meant) = option_meant(quoted(problem)) {
-        return example(alloc, meant);
+    let refused = quoted(problem);
+    if let Some(tip) = needless(refused) {
+        return advise(alloc, Some(String::from_str(alloc, tip)?), COUNT);
     }
-    if let Some(tip) = needless(quoted(problem)) {
-        return with_tip(alloc, String::from_str(alloc, tip)?, COUNT);
+    match option_meant(refused) {
+        Some(meant) => advise(alloc, None, meant),
+        None => option_or(alloc, refused, Subcommand::Count, COUNT),
     }
-    if let Some(meant) = example_meant(quoted(problem)) {
-        return example(alloc, meant);
-    }
-    option_or(alloc, quoted(problem), Subcommand::Count, COUNT)
 }
 
 /// Makes the advice for a first argument that is neither a command nor close to one.
 fn count_of(alloc: Global, word: &str) -> Result<Advice, AllocError> {
     if word.is_empty() || !is_shown_as_typed(alloc, word)? {
-        return example(alloc, COUNT);
+        return advise(alloc, None, COUNT);
     }
     let mut text = String::from_str(alloc, "To count a directory: lc count ")?;
     push_quoted(&mut text, word)?;
@@ -188,10 +177,19 @@ fn explanation_meant<W: AsStr>(alloc: Global, words: &[W]) -> Result<Option<Stri
     Ok(Some(command))
 }
 
+fn is_among<W: AsStr>(words: &[W], name: &str) -> bool {
+    for word in words {
+        if word.as_str() == name {
+            return true;
+        }
+    }
+    false
+}
+
 /// Finds the command that comes after its arguments, as in `a.json b.json sum`, and makes the command with its arguments after it.
 fn command_moved<W: AsStr>(alloc: Global, words: &[W]) -> Result<Option<String>, AllocError> {
     for (name, _) in COMMANDS {
-        if words.iter().any(|word| word.as_str() == *name) {
+        if is_among(words, name) {
             let mut command = format!(in alloc; "lc {name}")?;
             return if push_others(&mut command, alloc, words, name)? {
                 Ok(Some(command))
@@ -223,32 +221,32 @@ fn push_others<W: AsStr>(
     Ok(true)
 }
 
-/// Makes the advice for arguments of which the first, `first`, is no command: a command that the user may have meant.
-pub(crate) fn command<W: AsStr>(
-    alloc: Global,
-    first: &str,
-    words: &[W],
-) -> Result<Advice, AllocError> {
+/// Makes the advice for arguments of which the first is no command: a command that the user may have meant.
+pub(crate) fn command<W: AsStr>(alloc: Global, words: &[W]) -> Result<Advice, AllocError> {
+    let first = match words {
+        [first, ..] => first.as_str(),
+        [] => "",
+    };
     if first == "help" {
-        return example(alloc, "lc help count");
+        return advise(alloc, None, "lc help count");
     }
     if let Some(meant) = word_meant(first) {
-        return example(alloc, meant);
+        return advise(alloc, None, meant);
     }
     if let Some(meant) = explanation_meant(alloc, words)? {
-        return example(alloc, &meant);
+        return advise(alloc, None, &meant);
     }
     if first.starts_with("--") {
         return option_or(alloc, first, Subcommand::Count, COUNT);
     }
     let Some((name, meant)) = near_name(alloc, first, COMMANDS)? else {
         return match command_moved(alloc, words)? {
-            Some(command) => example(alloc, &command),
+            Some(command) => advise(alloc, None, &command),
             None => count_of(alloc, first),
         };
     };
     let tip = format!(in alloc; "a similar command exists: '{name}'")?;
-    with_tip(alloc, tip, meant)
+    advise(alloc, Some(tip), meant)
 }
 
 /// Returns the name that help shows for an option's value, such as `FILE`, if the option is one of `lc explain` that takes a value.
@@ -262,8 +260,9 @@ fn value_name(option: &str) -> Option<&'static str> {
     None
 }
 
-/// Returns a tip, such as `'a' is the FILE of '--exclude-from'`, about the last argument that was read as the value of an option.
-fn value_taken<W: AsStr>(alloc: Global, words: &[W]) -> Result<Option<String>, AllocError> {
+/// Makes the advice for arguments of `lc explain` that lack DIR. Its tip, such as `'a' is the FILE of '--exclude-from'`, is about the last
+/// argument that was read as the value of an option.
+fn explain<W: AsStr>(alloc: Global, words: &[W]) -> Result<Advice, AllocError> {
     let mut taken = None;
     for pair in words.windows(2) {
         if let [option, value] = pair {
@@ -273,17 +272,7 @@ fn value_taken<W: AsStr>(alloc: Global, words: &[W]) -> Result<Option<String>, A
             }
         }
     }
-    Ok(taken)
-}
-
-/// Makes the advice for refused arguments of `lc explain`. `problem` is clap's message.
-fn explain<W: AsStr>(alloc: Global, words: &[W], problem: &str) -> Result<Advice, AllocError> {
-    if problem.starts_with("error: the following required") {
-        if let Some(tip) = value_taken(alloc, words)? {
-            return with_tip(alloc, tip, EXPLAIN);
-        }
-    }
-    option_or(alloc, quoted(problem), Subcommand::Explain, EXPLAIN)
+    advise(alloc, taken, EXPLAIN)
 }
 
 /// Makes the advice for refused arguments of a command. `problem` is clap's message.
@@ -293,12 +282,16 @@ pub(crate) fn advice_for<W: AsStr>(
     words: &[W],
     problem: &str,
 ) -> Result<Advice, AllocError> {
-    match command {
-        Subcommand::Count => count(alloc, words, problem),
-        Subcommand::Explain => explain(alloc, words, problem),
-        Subcommand::Check => option_or(alloc, quoted(problem), command, CHECK),
-        Subcommand::Sum => option_or(alloc, quoted(problem), command, SUM),
-        Subcommand::Diff => option_or(alloc, quoted(problem), command, DIFF),
-        Subcommand::Languages => option_or(alloc, quoted(problem), command, LANGUAGES),
-    }
+    let other = match command {
+        Subcommand::Count => return count(alloc, words, problem),
+        Subcommand::Explain if problem.starts_with("error: the following required") => {
+            return explain(alloc, words);
+        }
+        Subcommand::Explain => EXPLAIN,
+        Subcommand::Check => CHECK,
+        Subcommand::Sum => SUM,
+        Subcommand::Diff => DIFF,
+        Subcommand::Languages => LANGUAGES,
+    };
+    option_or(alloc, quoted(problem), command, other)
 }

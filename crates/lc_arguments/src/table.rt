@@ -9,8 +9,8 @@ ghost use Rattle.lc_sheet.specs.declared.table_options.Order.{Order as OrderMode
 ghost use Rattle.lc_sheet.specs.declared.table_options.Output.{Output as OutputModel};
 ghost use Rattle.lc_sheet.specs.Keys.{key_name};
 ghost use Rattle.lc_arguments.specs.Combinations.{draws_boxes, is_paths};
-ghost use Rattle.lc_arguments.specs.Explained.{AnswersColumns, AnswersFormat, AnswersSort, AnswersTable, AnswersTableIn, IsRefusal};
-ghost use Rattle.lc_arguments.specs.TableWords.{IsColumnsText, IsKeyAfter, IsNoKeyAfter, default_order, is_fixed, is_for_reading};
+ghost use Rattle.lc_arguments.specs.Explained.{AnswersColumns, AnswersFormat, AnswersSort, AnswersTable, AnswersTableIn};
+ghost use Rattle.lc_arguments.specs.TableWords.{IsColumnsText, IsKeyAfter, IsNoKeyAfter, is_fixed};
 ghost use Rattle.lc_arguments.specs.TableWords.{is_key_name, max_columns, number_of};
 ghost use Rattle.lc_arguments.specs.Texts.{comma};
 ghost use Rattle.lc_arguments.specs.TableWords.{columns_in, lists_files, names_tree, options_in, order_in, order_word, output_in};
@@ -26,6 +26,10 @@ use std::alloc::Global;
 
 /// The greatest number of attributes that rows may be grouped by.
 const MAX_ATTRIBUTES: u8 = 16;
+
+/// Why `--depth` is refused without `--by dir` and without `--format tree`.
+const UNDIRECTED: &str =
+    "'--depth <N>' needs '--by dir', or in lc count and lc sum '--format tree'";
 
 /// The table that a command prints, as in `--format table --by ext --sort lines`.
 #[derive(Clone, Copy)]
@@ -44,34 +48,6 @@ pub struct TableRequest {
     pub share: bool,
     /// The number of levels of directories in a tree: the value of `--depth`, or 2.
     pub levels: u32,
-}
-
-/// Returns whether a text is human-readable. Rows in such a text begin with the largest, unless `--sort` names another order.
-fn is_for_reading(output: Output) -> bool
-    ensures { result ≡ is_for_reading output }
-{
-    matches!(output, Output::Text(Format::Table | Format::Markdown))
-}
-
-/// Returns the default order: by lines if the table shows only the first rows or is human-readable, and otherwise by name.
-fn default_order(output: Output, top: Option<u32>) -> Order
-    ensures { result ≡ default_order output top }
-{
-    if top.is_some() || is_for_reading(output) {
-        Order::Largest(Number::Lines)
-    } else {
-        Order::Name
-    }
-}
-
-/// Returns the number by which an order sorts, or `None` if it sorts by names.
-fn number_of(order: Order) -> Option<Number>
-    ensures { result ≡ number_of order }
-{
-    match order {
-        Order::Name => None,
-        Order::Largest(number) => Some(number),
-    }
 }
 
 impl TableRequest {
@@ -104,11 +80,18 @@ impl TableRequest {
         self.files || self.is_paths()
     }
 
-    /// Returns the order of rows and files of an output: the named order, or the default order.
-    fn order_in(self, output: Output) -> Order
-        ensures { result ≡ order_in output self }
+    /// Returns the number by which the rows and files of an output are sorted, or `None` if they are sorted by name. If `--sort` names no
+    /// order, they are sorted by lines if the table shows only the first rows or is human-readable, and otherwise by name.
+    fn number_in(self, output: Output) -> Option<Number>
+        ensures { result ≡ number_of (order_in output self) }
     {
-        self.sort.unwrap_or(default_order(output, self.top))
+        let is_for_reading = matches!(output, Output::Text(Format::Table | Format::Markdown));
+        match self.sort {
+            Some(Order::Name) => None,
+            Some(Order::Largest(number)) => Some(number),
+            None if self.top.is_some() || is_for_reading => Some(Number::Lines),
+            None => None,
+        }
     }
 
     /// Returns the columns of an output: those of the request, or `columns` if it names none. A tree has the directories of its levels.
@@ -134,7 +117,7 @@ impl TableRequest {
         TableOptions {
             output,
             by: self.columns_in(output, columns),
-            sort: number_of(self.order_in(output)),
+            sort: self.number_in(output),
             top: self.top,
             files: self.lists_files(),
             share: self.share,
@@ -256,16 +239,6 @@ fn names_tree(format: Option<&str>) -> bool
     }
 }
 
-/// Makes the refusal of `--depth` without `--by dir` and without `--format tree`.
-fn undirected(alloc: Global) -> ParseExit
-    ensures { IsRefusal result }
-{
-    unfit(
-        alloc,
-        "'--depth <N>' needs '--by dir', or in lc count and lc sum '--format tree'",
-    )
-}
-
 /// Reads the values of `--by` and `--depth`. Without `--by`, only the levels of a tree have a depth.
 fn columns_of(
     alloc: Global,
@@ -277,7 +250,7 @@ fn columns_of(
 {
     let Some(names) = names else {
         return match depth {
-            Some(_) if !is_tree => Err(undirected(alloc)),
+            Some(_) if !is_tree => Err(unfit(alloc, UNDIRECTED)),
             _ => Ok(None),
         };
     };
@@ -290,7 +263,7 @@ fn columns_of(
         ));
     };
     if depth.is_some() && columns.dir.is_none() {
-        return Err(undirected(alloc));
+        return Err(unfit(alloc, UNDIRECTED));
     }
     Ok(Some(columns))
 }

@@ -89,12 +89,13 @@ fn line_of(alloc: Global, row: &OptionRow) -> Result<String, AllocError> {
     line.push_str(row.default.unwrap_or(""))?;
     line.push('\t')?;
     push_commands(&mut line, row.of)?;
+    let texts = row.texts();
     for text in [
-        row.heading,
-        row.help,
-        row.long_help(),
-        row.brief,
-        row.example,
+        texts.heading,
+        texts.help,
+        texts.long_help,
+        texts.brief,
+        texts.example,
     ] {
         line.push('\t')?;
         push_joined(&mut line, text)?;

@@ -19,6 +19,6 @@ returns c =
     let f = found_of c.args.matches.now in
     let are = c.in-Ok.ensures ∙ ap (or_default (codes ".")) (texts_of (rows_of f) f (codes "DIR") c.get_strs.result _
     c.unwrap_or-words.result refl c.get_strs.ensures refl c.unwrap_or-words.ensures) in
-    refused_for _ c.repeated.result c.repeated.ensures
+    refused_for _ c.unfit_word.result c.unfit_word.ensures
     (sym (names_lent _ c.in-Ok.directories.items are)
     ∙ one_wrong _ (rw (c.in-Some.is, c.deref.ensures.value) at c.given_twice.ensures))

@@ -6,7 +6,7 @@ use Rattle.lc_arguments.proofs.paths.paths_of.Goals as goal
 
 pub returns-then-is_bad_part : goal.returns-then-is_bad_part
 returns-then-is_bad_part c =
-    refused_for _ c.misplaced.result c.misplaced.ensures
+    refused_for _ c.refused.result c.refused.ensures
     (one_misplaced c.args.words.now c.loop-word.word-index _ c.loop-word-test.true
     (ap is_bad_part (sym c.part_of-path.ensures) ∙ sym c.if-is_bad_part.ensures))
 

@@ -1,14 +1,11 @@
-use Rattle.std.proofs.lemmas.Result.{IfOk-weaker}
-use Rattle.clap.specs.Built.{AddsInTurn, AddsSubcommand}
-use Rattle.lc_arguments.specs.{CommandLine.{bare_lc_app, lc_app, subcommand_apps}, CountArgs.IsCommandOf}
-use Rattle.lc_arguments.proofs.CommandRules.{subcommands_in_turn}
+use Rattle.std.proofs.Common.{List, map, subst}
+use Rattle.lc_arguments.specs.{CommandLine.command_app, declared.option_row.Subcommand.Subcommand}
+use Rattle.lc_arguments.proofs.{CommandRules.{LacksOf, lacks_others}}
 use Rattle.lc_arguments.proofs.request.command.Goals as goal
 
-pub returns : goal.returns
-returns c =
-    let subcommands = c.in_ok-subcommands.subcommands.items in
-    let bare = c.in_ok-command.command in
-    IfOk-weaker c.subcommands-2.result (AddsInTurn AddsSubcommand bare subcommands) (IsCommandOf lc_app)
-    (λ command added. subcommands_in_turn subcommand_apps subcommands c.in_ok-subcommands.ensures bare_lc_app bare command
-    c.in_ok-command.ensures added)
-    c.subcommands-2.ensures
+pub commands-preserved : goal.commands-preserved
+commands-preserved c =
+    lacks_others (command_app c.in-Some.first.now) (map command_app c.in-Some.others.now) c.commands.command c.in_ok-subcommand.subcommand
+    c.in_ok-command.command
+    (subst (λ (left : List Subcommand). LacksOf (map command_app left) c.commands.command) c.in-Some.ensures.cases.0 c.commands.invariant)
+    c.in_ok-subcommand.ensures.0 c.in_ok-command.ensures
