@@ -1,6 +1,6 @@
 //! The states of attributes that a counted file has.
 
-ghost use Rattle.std.specs.Prelude.{◌≡◌, [], map, true, IfOk, IfSome};
+ghost use Rattle.std.specs.Prelude.{◌≡◌, map, true, IfOk, IfSome};
 ghost use Rattle.std.specs.Arc.{arc_value};
 ghost use Rattle.lc_level.specs.FileAttributes.{attributes_with, owned_state};
 ghost use Rattle.lc_rules.specs.Models.{state_model};
@@ -76,17 +76,6 @@ impl Model for FileAttributes {
 }
 
 impl FileAttributes {
-    /// Makes the attributes of a file for which no attribute was asked for.
-    pub fn of_text(
-        alloc: Global,
-        text: TextState,
-    ) -> Result<Arc<FileAttributes, Global>, AllocError>
-        ensures { IfOk result (λ a. arc_value a ≡ attributes_with text []) }
-    {
-        let asked = Vec::new(alloc);
-        Ok(Arc::new(alloc, FileAttributes { text, asked })?)
-    }
-
     fn of(alloc: Global, text: TextState, asked: &[State<'_>]) -> Result<FileAttributes, AllocError>
         ensures { IfOk result (λ a. a ≡ attributes_with text (map state_model asked.now)) }
     {
