@@ -1,10 +1,8 @@
 -- The columns that each section of a comparison has in each format.
 use Rattle.std.specs.{Prelude.{ℕ, ◌==◌, Bool, List, [], ◌∷◌, ◌++◌, map, flat_map, Option, is_some, unwrap_or}, List.range_with_len}
-use Rattle.lc_changes.specs.declared.columns.TheConstants.{NEW_VALUES, NUMBERS_BY_REPORT, NUMBERS_IN_TURN, OLD_VALUES, READ_FILES}
-use Rattle.lc_changes.specs.declared.columns.TheConstants.{VALUES_IN_TURN}
 use Rattle.lc_rows.specs.SheetColumns.{column_if, keeps_columns, key_columns}
 use Rattle.lc_sheet.specs.declared.column.{Column.Column, Compared.Compared, Number.{Number, TheVariants.{Files, Lines, Blank, Bytes}}}
-use Rattle.lc_sheet.specs.declared.key.Key.TheVariants.{Dir, Attribute, Ext}
+use Rattle.lc_sheet.specs.declared.key.Key.TheVariants.{Dir, Attribute, Ext, Text, Eol}
 use Rattle.lc_sheet.specs.declared.table_options.{Columns.Columns, Format.{Format, TheVariants.{Tsv, Json, Csv}}}
 use Rattle.lc_sheet.specs.declared.column.Column.TheVariants as column
 use Rattle.lc_sheet.specs.declared.column.Compared.TheVariants as compared
@@ -30,10 +28,26 @@ with_changes percent = with_change percent Files ++ (with_change percent Lines +
 abbrev pub percent_number : Option Number → Number
 percent_number sort = unwrap_or sort Lines
 
+-- the numbers of rows and sums, and the values of a file but those of attributes
+abbrev pub compared_numbers : List Compared
+compared_numbers = compared.Number Files ∷ compared.Number Lines ∷ compared.Number Blank ∷ compared.Number Bytes ∷ []
+
+abbrev pub compared_values : List Compared
+compared_values =
+    compared.Key Text ∷ compared.Key Eol ∷ compared.Number Lines ∷ compared.Number Blank ∷ compared.Number Bytes ∷ []
+
+-- a compared value in the old report, and then in the new report
+abbrev pub in_turn : Compared → List Column
+in_turn value = column.Old value ∷ column.New value ∷ []
+
+-- all of these values in the old report, and then all in the new report
+abbrev pub by_report : List Compared → List Column
+by_report values = map column.Old values ++ map column.New values
+
 abbrev pub changed_numbers : Format → Option Number → List Column
-changed_numbers Tsv sort = NUMBERS_IN_TURN
-changed_numbers Csv sort = NUMBERS_IN_TURN
-changed_numbers Json sort = NUMBERS_BY_REPORT
+changed_numbers Tsv sort = flat_map in_turn compared_numbers
+changed_numbers Csv sort = flat_map in_turn compared_numbers
+changed_numbers Json sort = by_report compared_numbers
 changed_numbers other sort = with_changes (percent_number sort)
 
 -- the columns of rows: their keys, and then the numbers
@@ -42,30 +56,30 @@ changed_columns format sort by = key_columns (keeps_columns format) by ++ change
 
 -- the columns of sums in a comparison whose rows have these columns
 abbrev pub changed_sums_columns : Format → List Column → List Column
-changed_sums_columns Json rows = NUMBERS_BY_REPORT
-changed_sums_columns Csv rows = NUMBERS_BY_REPORT
+changed_sums_columns Json rows = by_report compared_numbers
+changed_sums_columns Csv rows = by_report compared_numbers
 changed_sums_columns other rows = rows
 
 -- the first n attributes, which are compared
 abbrev pub compared_attributes : ℕ → List Compared
 compared_attributes n = map (λ place. compared.Key (Attribute place)) (range_with_len 0 n)
 
--- a compared value in the old report, and then in the new report
-abbrev pub in_turn : Compared → List Column
-in_turn value = column.Old value ∷ column.New value ∷ []
-
 -- the columns of the values of files in records: the first n attributes, and the other values
 abbrev pub recorded_in_turn : ℕ → List Column
-recorded_in_turn n = flat_map in_turn (compared_attributes n) ++ VALUES_IN_TURN
+recorded_in_turn n = flat_map in_turn (compared_attributes n) ++ flat_map in_turn compared_values
 
 abbrev pub recorded_by_report : ℕ → List Column
-recorded_by_report n = map column.Old (compared_attributes n) ++ (OLD_VALUES ++ (map column.New (compared_attributes n) ++ NEW_VALUES))
+recorded_by_report n =
+    map column.Old (compared_attributes n) ++ (map column.Old compared_values
+    ++ (map column.New (compared_attributes n) ++ map column.New compared_values))
 
 -- the columns of files
 abbrev pub file_change_columns : Format → Columns → List Column
-file_change_columns Tsv by = column.Change ∷ (VALUES_IN_TURN ++ column.Path ∷ [])
+file_change_columns Tsv by = column.Change ∷ (flat_map in_turn compared_values ++ column.Path ∷ [])
 file_change_columns Json by =
     column.Path ∷ (column_if (is_some by.dir) (column.Key Dir) ++ column.Key Ext ∷ column.Change ∷ recorded_by_report by.attributes)
 file_change_columns Csv by =
     column.Path ∷ column.Change ∷ (column_if (is_some by.dir) (column.Key Dir) ++ column.Key Ext ∷ recorded_in_turn by.attributes)
-file_change_columns other by = READ_FILES
+file_change_columns other by =
+    column.Change ∷ column.New (compared.Number Lines) ∷ column.Difference Lines
+    ∷ column.New (compared.Number Bytes) ∷ column.Difference Bytes ∷ column.Path ∷ []

@@ -1,10 +1,9 @@
 -- The columns that each section of a sheet has in each format.
 use Rattle.std.specs.Prelude.{Bool, true, false, if◌then◌else◌, nat_lt, List, [], ◌∷◌, ◌++◌, map, flat_map, is_some, unwrap_or}
 use Rattle.std.specs.List.{find, range_with_len}
-use Rattle.lc_rows.specs.declared.columns.TheConstants.{LISTED_FAULTS, LISTED_FILES, LISTED_SKIPPED, NUMBERS, RECORDED_FILES}
-use Rattle.lc_rows.specs.declared.columns.TheConstants.{SKIPPED_RECORDS}
 use Rattle.lc_sheet.specs.{Keys.{has_key, report_keys}, Sheets.sheet_format}
-use Rattle.lc_sheet.specs.declared.{column.Column.Column, key.Key.{Key, TheVariants.{Dir, Attribute, Eol}}}
+use Rattle.lc_sheet.specs.declared.{column.Column.Column, column.Number.TheVariants.{Files, Lines, Blank, Bytes}}
+use Rattle.lc_sheet.specs.declared.key.Key.{Key, TheVariants.{Dir, Attribute, Ext, Text, Eol}}
 use Rattle.lc_sheet.specs.declared.table_options.{Columns.Columns, Format.{Format, TheVariants.{Tsv, Table, Json, Csv, Markdown}}}
 use Rattle.lc_sheet.specs.declared.table_options.TableOptions.{TableOptions}
 use Rattle.lc_sheet.specs.declared.column.Column.TheVariants as column
@@ -39,7 +38,7 @@ first_key all by =
 
 -- the columns of numbers in rows and sums
 abbrev pub number_columns : List Column
-number_columns = NUMBERS
+number_columns = column.Number Files ∷ column.Number Lines ∷ column.Number Blank ∷ column.Number Bytes ∷ []
 
 -- the columns of shares and bars
 abbrev pub share_columns : Format → List Column
@@ -60,10 +59,12 @@ sums_columns other rows = rows
 
 -- the columns of files in lists, and in records; records have the directory and the attributes that rows are grouped by
 abbrev pub listed_columns : List Column
-listed_columns = LISTED_FILES
+listed_columns =
+    column.Key Text ∷ column.Key Eol ∷ column.Number Lines ∷ column.Number Blank ∷ column.Number Bytes ∷ column.Path ∷ []
 
 abbrev pub recorded_columns : Columns → List Column
-recorded_columns by = column.Path ∷ (column_if (is_some by.dir) (column.Key Dir) ++ (attribute_columns by ++ RECORDED_FILES))
+recorded_columns by = column.Path ∷ (column_if (is_some by.dir) (column.Key Dir) ++ (attribute_columns by
+    ++ column.Key Ext ∷ column.Key Text ∷ column.Key Eol ∷ column.Number Lines ∷ column.Number Blank ∷ column.Number Bytes ∷ []))
 
 abbrev pub file_columns : Format → Columns → List Column
 file_columns Json by = recorded_columns by
@@ -72,10 +73,10 @@ file_columns other by = listed_columns
 
 -- the columns of skipped entries in lists, and in records
 abbrev pub listed_skipped : List Column
-listed_skipped = LISTED_SKIPPED
+listed_skipped = column.Reason ∷ column.Place ∷ column.Entry ∷ []
 
 abbrev pub recorded_skipped : List Column
-recorded_skipped = SKIPPED_RECORDS
+recorded_skipped = column.Path ∷ column.Kind ∷ column.Reason ∷ column.File ∷ column.Line ∷ column.Attribute ∷ []
 
 abbrev pub skipped_columns : Format → List Column
 skipped_columns Json = recorded_skipped
@@ -83,4 +84,4 @@ skipped_columns Csv = recorded_skipped
 skipped_columns other = listed_skipped
 
 abbrev pub fault_columns : List Column
-fault_columns = LISTED_FAULTS
+fault_columns = column.Fault ∷ column.Site ∷ []

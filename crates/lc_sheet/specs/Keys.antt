@@ -1,15 +1,15 @@
 -- The keys by which the rows of a table are grouped.
-use Rattle.std.specs.Prelude.{ℕ, ◌+◌, ◌==◌, ◌&&◌, ◌||◌, max, min, nat_lt, not, Bool, true, List, codes, is_some, Some, None}
+use Rattle.std.specs.Prelude.{ℕ, ◌+◌, ◌==◌, ◌&&◌, ◌||◌, max, min, nat_lt, not, Bool, true, List, [], ◌∷◌, codes, is_some, Some, None}
 use Rattle.lc_sheet.specs.AttributeColumns.{name_at}
-use Rattle.lc_sheet.specs.declared.key.{Key.{Key, TheVariants.{Dir, Attribute, Ext, Text, Eol}}, TheConstants.{KEYS, REPORT_KEYS}}
+use Rattle.lc_sheet.specs.declared.key.Key.{Key, TheVariants.{Dir, Attribute, Ext, Text, Eol}}
 use Rattle.lc_sheet.specs.declared.table_options.Columns.{Columns}
 
 -- the keys whose names are fixed, in the order of their columns; those by which the rows of a report are grouped are below
 abbrev pub keys : List Key
-keys = KEYS
+keys = Dir ∷ Ext ∷ Text ∷ Eol ∷ []
 
 abbrev pub report_keys : List Key
-report_keys = REPORT_KEYS
+report_keys = Ext ∷ Text ∷ Eol ∷ []
 
 -- the name of a key; the keys of attributes have these names
 abbrev pub key_name : List (List ℕ) → Key → List ℕ

@@ -12,6 +12,7 @@
 //! - `table_options`: the format of a table, its columns, its order, and where it is cut
 //! - `condition`: conditions on files, such as `lines>1000`
 //! - `change_kinds`: what became of files from an old report to a new one
+//! - `laws`: laws that tie constants to definitions
 #![tactic(auto)]
 
 mod attribute_column;
@@ -20,6 +21,7 @@ mod column;
 mod condition;
 mod form;
 mod key;
+mod laws;
 mod lines;
 mod section;
 mod sheet;
@@ -32,6 +34,7 @@ pub use column::{Column, Compared, Number, Side};
 pub use condition::{Comparison, Condition, Test, needs_files};
 pub use form::{Form, Shares};
 pub use key::{KEYS, Key, REPORT_KEYS};
+pub use laws::keys_are_listed;
 pub use lines::Lines;
 pub use section::Section;
 pub use sheet::Sheet;
