@@ -1,11 +1,11 @@
-# lc: see README.md. `make run` shows it at work, `make test` proves and tests everything.
+# lc: see README.md. `make run` shows it at work, `make test` runs the tests without proof, `make gate` proves and tests everything.
 
 PREFIX ?= /usr/local
 # the oldest processor that lc is to run on, such as x86-64-v3; without it that of the last build, and at first x86-64-v2
 CPU ?= $(or $(shell cat crates/lc/out/cpu 2> /dev/null),x86-64-v2)
 SHELL := /bin/bash
 
-.PHONY: run test test-memory test-program test-git test-faults test-fuzz test-edits test-memcheck test-parts test-picture install uninstall dist deb clean rt FORCE
+.PHONY: run test gate test-memory test-program test-git test-faults test-fuzz test-edits test-memcheck test-parts test-picture install uninstall dist deb clean rt FORCE
 
 lc: $(shell find crates -name out -prune -o -type f -print 2>/dev/null) crates.txt tools/build crates/lc/out/cpu | rt
 	@echo "make: proves lc and the crates below it, then builds it for $(CPU): 25 minutes on 4 cores the first time, then what has changed"
@@ -22,8 +22,13 @@ crates/lc/out/cpu: FORCE
 run: rt
 	@tools/build --look "$(or $(PWD),$(CURDIR))" $(or $(ARGS),count --format table --by ext $(CURDIR))
 
-# rt alone would run fewer checks side by side, since it counts a check's memory for more than it takes
+# all tests that need no proof, over builds without proof
 test: rt
+	@echo "make: runs the tests and the transcripts without proof: some minutes on 4 cores; \`make gate\` proves all crates"
+	tools/test
+
+# rt alone would run fewer checks side by side, since it counts a check's memory for more than it takes
+gate: rt
 	@echo "make: proves every crate from nothing, tries the mutants and runs the tests: an hour on 4 cores"
 	tools/formatted
 	RT_JOBS=$${RT_JOBS:-$$(tools/build --cores)} tools/gate-times rt ci
