@@ -4,6 +4,7 @@
 
 mod asking;
 mod calls;
+mod commands;
 mod counts;
 mod hints;
 mod mem_system;

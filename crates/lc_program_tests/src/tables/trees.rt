@@ -1,11 +1,14 @@
 //! Runs over trees in memory: the tables that they print, with several numbers of workers, and their errors.
 
-use crate::tables::asking::{Board, Case, HEADER, Workers, answer_of, compare_all, compare_by};
+use crate::tables::asking::{
+    Board, Case, HEADER, Workers, answer_of, compare_all, compare_by, new_writer,
+};
 use lc_paths::Outcome;
 use lc_program::RunFault;
 use lc_tests::tree;
 use lc_tests::writers::{Narrow, WRITERS, WhenFull};
 use lc_tree::MemTree;
+use lc_walk::WalkFault;
 use std::alloc::{AllocError, Global};
 use std::process::Abort;
 use std::sync::Wait;
@@ -152,6 +155,21 @@ fn a_run_stops_at_every_place(rt: HostRuntime) -> Result<(), Fail> {
     let text = with_header(rt.alloc(), WHOLE)?;
     for writer in WRITERS {
         compare_writes(&rt, &tree, &text, *writer)?;
+    }
+    Ok(())
+}
+
+/// A tree of 17 directories: one more than the runs of these tests may count.
+const MANY_DIRECTORIES: &str = "a/{ b/ c/ d/ e/ f/ g/ h/ } i/{ j/ k/ l/ m/ n/ o/ p/ }";
+
+#[test]
+fn a_tree_of_too_many_directories(rt: HostRuntime) -> Result<(), Fail> {
+    let node = tree(rt.alloc(), MANY_DIRECTORIES)?;
+    for board in [Board::Words, Board::Locked] {
+        let mut out = new_writer(rt.alloc())?;
+        let answer = answer_of(&rt, &MemTree::new(&node), "", board, 1, &mut out)?;
+        assert!(rt; answer == Err(RunFault::Walk(WalkFault::TooManyDirs)));
+        assert!(rt; out.taken.is_empty());
     }
     Ok(())
 }
