@@ -19,6 +19,9 @@ const BY_LINES: PathFormat = PathFormat {
     style: PathStyle::Escaped,
 };
 
+/// The room for what a call writes, in bytes. A text that grew while it is written would end with a write error if an allocation failed.
+const ROOM: usize = 4_096;
+
 /// Returns the format of paths that a word names: `nul` if a NUL byte ends each path, or `shown` if they are shown in a terminal.
 fn format_of(word: &str) -> PathFormat {
     let (end, style) = match word {
@@ -80,7 +83,7 @@ fn push_checked(
     joined: &[u8],
 ) -> Result<(), AllocError> {
     let mut input = joined;
-    let mut out = Vec::new(alloc);
+    let mut out = Vec::with_capacity(alloc, ROOM)?;
     let end = check_joined(alloc, format, &mut input, &mut out);
     push_written(text, &out, end)
 }
@@ -99,7 +102,7 @@ fn push_told(
         return Err(AllocError);
     };
     let mut input = paths;
-    let mut out = Vec::new(alloc);
+    let mut out = Vec::with_capacity(alloc, ROOM)?;
     let end = check_explained(alloc, name, &rules, format, &mut input, &mut out);
     push_written(text, &out, end)
 }
@@ -147,7 +150,7 @@ fn push_explained_by(
 ) -> Result<(), AllocError> {
     let options = ExplainOptions { filters, style };
     let mut input = paths;
-    let mut out = Vec::new(alloc);
+    let mut out = Vec::with_capacity(alloc, ROOM)?;
     let end = match explain(
         alloc,
         tree,

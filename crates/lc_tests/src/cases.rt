@@ -58,10 +58,12 @@ pub fn bytes_of(alloc: Global, column: &str) -> Result<Vec<u8>, AllocError> {
     let (before, repeated) = column.split_once("\\{").unwrap_or((column, ""));
     let (repeated, after) = repeated.split_once('}').unwrap_or((repeated, ""));
     let (times, unit) = repeated.split_once(' ').unwrap_or(("", ""));
+    let mut unit_bytes = Vec::new(alloc);
+    push_unescaped(&mut unit_bytes, unit)?;
     let mut bytes = Vec::new(alloc);
     push_unescaped(&mut bytes, before)?;
     for _ in 0..times.parse::<usize>().unwrap_or(0) {
-        push_unescaped(&mut bytes, unit)?;
+        bytes.extend_from_slice(&unit_bytes)?;
     }
     push_unescaped(&mut bytes, after)?;
     Ok(bytes)
