@@ -2,8 +2,8 @@
 use Rattle.std.specs.Prelude.{◌&&◌, ◌||◌, ℕ, Bool, true, false, not, is_some, length, nat_lt, List, Option, Some, None, codes}
 use Rattle.std.specs.{Option.option_map_or, Str.bytes_eq}
 use Rattle.clap.specs.Walk.{is_empty}
-use Rattle.lc_sheet.specs.Keys.{are_all}
-use Rattle.lc_sheet.specs.declared.table_options.{Columns.Columns, Format.TheVariants.{Table, Csv, Markdown}}
+use Rattle.lc_sheet.specs.{Formats.is_for_reading, Keys.are_all}
+use Rattle.lc_sheet.specs.declared.table_options.{Columns.Columns, Format.TheVariants.Csv}
 use Rattle.lc_sheet.specs.declared.table_options.Output.{Output, TheVariants.{Text, Picture, Tree, Paths}}
 use Rattle.lc_sheet.specs.declared.table_options.Order.{Order, TheVariants.Name}
 use Rattle.lc_arguments.specs.declared.{count.CountRequest.CountRequest, diff.DiffRequest.DiffRequest, sum.SumRequest.SumRequest}
@@ -12,9 +12,7 @@ use Rattle.lc_arguments.specs.declared.{walk_request.WalkRequest.WalkRequest, ta
 -- the named format shows each row's share of the total if `--share` is used; without a named format, `--share` means a table, which does
 abbrev pub shows_shares : Option Output → Bool
 shows_shares None = true
-shows_shares (Some (Text Table)) = true
-shows_shares (Some (Text Markdown)) = true
-shows_shares _ = false
+shows_shares (Some output) = is_for_reading output
 
 -- `--format csv` or `--format paths` was typed: the formats that have records of one kind only
 abbrev pub has_one_kind : Option Output → Bool

@@ -4,7 +4,7 @@ use Rattle.std.specs.Prelude.{option_map, unwrap_or}
 use Rattle.std.specs.{Bool.MatchBool, Prelude.{is_none, is_some, codes, IfSome}, Option.option_map_or, List.{list_all, list_any}}
 use Rattle.std.specs.Str.{bytes_eq}
 use Rattle.lc_glob.specs.Pieces.{pieces_of}
-use Rattle.lc_sheet.specs.{Keys.{has_key, key_name, keys}, declared.key.Key.{Key, TheVariants.Attribute}}
+use Rattle.lc_sheet.specs.{Formats.is_for_reading, Keys.{has_key, key_name, keys}, declared.key.Key.{Key, TheVariants.Attribute}}
 use Rattle.lc_sheet.specs.declared.table_options.{Columns.Columns, Format.{Format, TheVariants.{Tsv, Table, Json, Csv, Markdown}}}
 use Rattle.lc_sheet.specs.declared.table_options.Output.{Output, TheVariants.{Text, Picture, Tree, Paths}}
 use Rattle.lc_sheet.specs.declared.table_options.{Order.{Order, TheVariants.{Name, Largest}}, TableOptions.TableOptions}
@@ -107,12 +107,6 @@ pub record IsTableBy (format by : Option (List ℕ)) (depth : Option ℕ) (sort 
 -- the output: the named one; if none is named, a text in the format `Table` for a table with shares, and otherwise in `other`
 abbrev pub output_in : Format → TableRequest → Output
 output_in other s = unwrap_or s.format (Text (cond s.share Table other))
-
--- a text for reading, whose rows begin with the largest
-abbrev pub is_for_reading : Output → Bool
-is_for_reading (Text Table) = true
-is_for_reading (Text Markdown) = true
-is_for_reading _ = false
 
 -- the order if none is named: by lines with `--top` or in a text for reading, and otherwise by name
 abbrev pub default_order : Output → Option ℕ → Order

@@ -17,10 +17,10 @@ use lc_sheet::{Format, Order, Output};
 fn shows_shares(format: Option<Output>) -> bool
     ensures { result ≡ shows_shares format }
 {
-    matches!(
-        format,
-        None | Some(Output::Text(Format::Table | Format::Markdown))
-    )
+    match format {
+        Some(output) => output.is_for_reading(),
+        None => true,
+    }
 }
 
 /// Returns whether a table lists files or skipped entries, is limited by `--top`, or has other columns than ext, text and eol, the columns

@@ -85,11 +85,10 @@ impl TableRequest {
     fn number_in(self, output: Output) -> Option<Number>
         ensures { result ≡ number_of (order_in output self) }
     {
-        let is_for_reading = matches!(output, Output::Text(Format::Table | Format::Markdown));
         match self.sort {
             Some(Order::Name) => None,
             Some(Order::Largest(number)) => Some(number),
-            None if self.top.is_some() || is_for_reading => Some(Number::Lines),
+            None if self.top.is_some() || output.is_for_reading() => Some(Number::Lines),
             None => None,
         }
     }

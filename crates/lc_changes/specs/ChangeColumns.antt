@@ -1,6 +1,7 @@
 -- The columns that each section of a comparison has in each format.
-use Rattle.std.specs.{Prelude.{ℕ, ◌==◌, Bool, List, [], ◌∷◌, ◌++◌, map, flat_map, Option, is_some, unwrap_or}, List.range_with_len}
-use Rattle.lc_rows.specs.SheetColumns.{column_if, keeps_columns, key_columns}
+use Rattle.std.specs.{Prelude.{ℕ, ◌==◌, Bool, if◌then◌else◌, List, [], ◌∷◌, ◌++◌, map, flat_map, Option, is_some, unwrap_or}, List.range_with_len}
+use Rattle.lc_rows.specs.SheetColumns.{column_if, key_columns}
+use Rattle.lc_sheet.specs.Formats.{has_records, keeps_columns}
 use Rattle.lc_sheet.specs.declared.column.{Column.Column, Compared.Compared, Number.{Number, TheVariants.{Files, Lines, Blank, Bytes}}}
 use Rattle.lc_sheet.specs.declared.key.Key.TheVariants.{Dir, Attribute, Ext, Text, Eol}
 use Rattle.lc_sheet.specs.declared.table_options.{Columns.Columns, Format.{Format, TheVariants.{Tsv, Json, Csv}}}
@@ -56,9 +57,7 @@ changed_columns format sort by = key_columns (keeps_columns format) by ++ change
 
 -- the columns of sums in a comparison whose rows have these columns
 abbrev pub changed_sums_columns : Format → List Column → List Column
-changed_sums_columns Json rows = by_report compared_numbers
-changed_sums_columns Csv rows = by_report compared_numbers
-changed_sums_columns other rows = rows
+changed_sums_columns format rows = if has_records format then by_report compared_numbers else rows
 
 -- the first n attributes, which are compared
 abbrev pub compared_attributes : ℕ → List Compared

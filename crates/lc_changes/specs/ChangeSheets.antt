@@ -6,9 +6,9 @@ use Rattle.lc_changes.specs.{ChangeValues.{changed_sums_value, changed_value, fi
 use Rattle.lc_changes.specs.Changes.{AreChangesSorted, AreCompared, differs, kept_rows, new_sums_of, old_sums_of}
 use Rattle.lc_changes.specs.FileChanges.{FileChangeModel, AreFileChangesSorted, AreFilesChanged, is_changed}
 use Rattle.lc_changes.specs.declared.options.ChangeOptions.{ChangeOptions}
-use Rattle.lc_rows.specs.{SheetColumns.{first_key, keeps_columns}, Sheets.{section_of, with_attributes}, ShownRows.parts_of}
+use Rattle.lc_rows.specs.{SheetColumns.first_key, Sheets.{section_of, with_attributes}, ShownRows.parts_of}
 use Rattle.lc_rows.specs.Views.{first_of, rest_of}
-use Rattle.lc_sheet.specs.{Keys.are_of_files, Sheets.{SectionModel, SheetModel}, declared.{column.Column.Column, form.Form.Form}}
+use Rattle.lc_sheet.specs.{Formats.keeps_columns, Keys.are_of_files, Sheets.{SectionModel, SheetModel}, declared.{column.Column.Column, form.Form.Form}}
 use Rattle.lc_sheet.specs.declared.table_options.{Columns.Columns, Format.Format}
 use Rattle.lc_walk.specs.declared.{options.ReportLists.ReportLists, report.Report.Report, tally.sums.Sums.Sums}
 

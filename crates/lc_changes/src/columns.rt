@@ -5,7 +5,7 @@ ghost use Rattle.lc_changes.specs.ChangeColumns.{changed_columns, changed_number
 ghost use Rattle.lc_changes.specs.ChangeColumns.{file_change_columns, recorded_in_turn, with_change};
 ghost use Rattle.lc_sheet.specs.declared.column.Column.TheVariants.{New, Old};
 
-use lc_rows::{keeps_columns, push_if, push_keys};
+use lc_rows::{push_if, push_keys};
 use lc_sheet::{Column, Columns, Compared, Format, Key, Number};
 use std::alloc::{AllocError, Global};
 
@@ -119,7 +119,7 @@ pub(crate) fn changed_columns(
     ensures { IfOk result (λ columns. columns.items ≡ changed_columns format sort by) }
 {
     let mut columns = Vec::new(alloc);
-    push_keys(&mut columns, keeps_columns(format), by)?;
+    push_keys(&mut columns, format.keeps_columns(), by)?;
     push_numbers(&mut columns, format, sort)?;
     Ok(columns)
 }
@@ -128,9 +128,10 @@ pub(crate) fn changed_columns(
 pub(crate) fn changed_sums_columns(format: Format, rows: &[Column]) -> &[Column]
     ensures { result.now ≡ changed_sums_columns format rows.entry.now }
 {
-    match format {
-        Format::Json | Format::Csv => &NUMBERS_BY_REPORT,
-        Format::Tsv | Format::Table | Format::Markdown => rows,
+    if format.has_records() {
+        &NUMBERS_BY_REPORT
+    } else {
+        rows
     }
 }
 

@@ -1,6 +1,6 @@
 -- How a comparison is answered, by what was read and written.
 use Rattle.std.specs.Prelude.{◌≡◌, ◌⊎◌, ◌||◌, ℕ, Bool, true, false, cond, not, List, Some, None, Result, Ok, Err, unwrap_or}
-use Rattle.lc_arguments.specs.{TableWords.{is_for_reading, number_of, output_in}, declared.diff.DiffRequest.DiffRequest}
+use Rattle.lc_arguments.specs.{TableWords.{number_of, output_in}, declared.diff.DiffRequest.DiffRequest}
 use Rattle.lc_arguments.specs.declared.table.TableRequest.{TableRequest}
 use Rattle.lc_changes.specs.{ChangeSheets.{AreChangesOf, ChangesModel}, KeptChanges.AreKeptParts}
 use Rattle.lc_changes.specs.declared.options.ChangeOptions.{ChangeOptions}
@@ -12,7 +12,7 @@ use Rattle.lc_program.specs.WalkRequests.{IsPrepared, IsUnprepared, columns_of, 
 use Rattle.lc_program.specs.declared.{answered.Answered.TheVariants.Compared, cause.Cause.{Cause, TheVariants.Memory}}
 use Rattle.lc_program.specs.declared.comparison.Comparison.{Comparison}
 use Rattle.lc_rows.specs.Kept.{IsKept}
-use Rattle.lc_sheet.specs.{ChangeKinds.are_all_changes, Sheets.sheet_format, declared.column.Number.TheVariants.Lines}
+use Rattle.lc_sheet.specs.{ChangeKinds.are_all_changes, Formats.is_for_reading, Sheets.sheet_format, declared.column.Number.TheVariants.Lines}
 use Rattle.lc_sheet.specs.declared.table_options.{Columns.Columns, Format.Format, Order.{Order, TheVariants.{Name, Largest}}, Output.Output}
 use Rattle.lc_reports.specs.{Needs.needs_of, declared.needs.Needs.Needs}
 use Rattle.lc_walk.specs.declared.{options.{Options.Options, ReportLists.ReportLists}, report.Report.Report}

@@ -48,11 +48,11 @@ fn compared_columns(table: TableRequest) -> Columns
 fn sort_number(output: Output, table: TableRequest) -> Option<Number>
     ensures { result ≡ number_of (change_order output table) }
 {
-    match (table.sort, output) {
-        (Some(Order::Largest(number)), _) => Some(number),
-        (Some(Order::Name), _) => None,
-        (None, Output::Text(Format::Table | Format::Markdown)) => Some(Number::Lines),
-        (None, _) => None,
+    match table.sort {
+        Some(Order::Largest(number)) => Some(number),
+        Some(Order::Name) => None,
+        None if output.is_for_reading() => Some(Number::Lines),
+        None => None,
     }
 }
 

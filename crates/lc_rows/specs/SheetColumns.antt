@@ -1,20 +1,15 @@
 -- The columns that each section of a sheet has in each format.
 use Rattle.std.specs.Prelude.{Bool, true, false, if◌then◌else◌, nat_lt, List, [], ◌∷◌, ◌++◌, map, flat_map, is_some, unwrap_or}
 use Rattle.std.specs.List.{find, range_with_len}
-use Rattle.lc_sheet.specs.{Keys.{has_key, report_keys}, Sheets.sheet_format}
+use Rattle.lc_sheet.specs.{Formats.{has_records, keeps_columns, share_columns}, Keys.{has_key, report_keys}, Sheets.sheet_format}
 use Rattle.lc_sheet.specs.declared.{column.Column.Column, column.Number.TheVariants.{Files, Lines, Blank, Bytes}}
 use Rattle.lc_sheet.specs.declared.key.Key.{Key, TheVariants.{Dir, Attribute, Ext, Text, Eol}}
-use Rattle.lc_sheet.specs.declared.table_options.{Columns.Columns, Format.{Format, TheVariants.{Tsv, Table, Json, Csv, Markdown}}}
+use Rattle.lc_sheet.specs.declared.table_options.{Columns.Columns, Format.Format}
 use Rattle.lc_sheet.specs.declared.table_options.TableOptions.{TableOptions}
 use Rattle.lc_sheet.specs.declared.column.Column.TheVariants as column
 
 abbrev pub column_if : Bool → Column → List Column
 column_if kept c = if kept then c ∷ [] else []
-
--- whether a format shows the columns of keys that rows are summed over
-abbrev pub keeps_columns : Format → Bool
-keeps_columns Tsv = true
-keeps_columns other = false
 
 -- whether rows have the column of a key of a report's rows: if they are grouped by it, and in some formats also if they are summed over it
 abbrev pub shows_key : Bool → Columns → Key → Bool
@@ -40,12 +35,6 @@ first_key all by =
 abbrev pub number_columns : List Column
 number_columns = column.Number Files ∷ column.Number Lines ∷ column.Number Blank ∷ column.Number Bytes ∷ []
 
--- the columns of shares and bars
-abbrev pub share_columns : Format → List Column
-share_columns Table = column.Share ∷ column.Bar ∷ []
-share_columns Markdown = column.Share ∷ []
-share_columns other = []
-
 abbrev pub row_columns : TableOptions → List Column
 row_columns options =
     key_columns (keeps_columns (sheet_format options.output)) options.by ++ number_columns
@@ -53,9 +42,7 @@ row_columns options =
 
 -- the columns of sums in a table whose rows have these columns: only numbers in the formats in which sums have no line among the rows
 abbrev pub sums_columns : Format → List Column → List Column
-sums_columns Json rows = number_columns
-sums_columns Csv rows = number_columns
-sums_columns other rows = rows
+sums_columns format rows = if has_records format then number_columns else rows
 
 -- the columns of files in lists, and in records; records have the directory and the attributes that rows are grouped by
 abbrev pub listed_columns : List Column
@@ -67,9 +54,7 @@ recorded_columns by = column.Path ∷ (column_if (is_some by.dir) (column.Key Di
     ++ column.Key Ext ∷ column.Key Text ∷ column.Key Eol ∷ column.Number Lines ∷ column.Number Blank ∷ column.Number Bytes ∷ []))
 
 abbrev pub file_columns : Format → Columns → List Column
-file_columns Json by = recorded_columns by
-file_columns Csv by = recorded_columns by
-file_columns other by = listed_columns
+file_columns format by = if has_records format then recorded_columns by else listed_columns
 
 -- the columns of skipped entries in lists, and in records
 abbrev pub listed_skipped : List Column
@@ -79,9 +64,7 @@ abbrev pub recorded_skipped : List Column
 recorded_skipped = column.Path ∷ column.Kind ∷ column.Reason ∷ column.File ∷ column.Line ∷ column.Attribute ∷ []
 
 abbrev pub skipped_columns : Format → List Column
-skipped_columns Json = recorded_skipped
-skipped_columns Csv = recorded_skipped
-skipped_columns other = listed_skipped
+skipped_columns format = if has_records format then recorded_skipped else listed_skipped
 
 abbrev pub fault_columns : List Column
 fault_columns = column.Fault ∷ column.Site ∷ []

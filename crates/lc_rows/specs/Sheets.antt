@@ -1,11 +1,11 @@
 -- The sheet of a report.
 use Rattle.std.specs.Prelude.{◌≡◌, ℕ, max, Bool, false, if◌then◌else◌, List, [], ◌∷◌, codes, unwrap_or, nat_lt, Option, Some, None}
-use Rattle.lc_sheet.specs.{Sheets.{SectionModel, SheetModel, lines_of, sheet_format}, Values.ValueModel}
+use Rattle.lc_sheet.specs.{Formats.keeps_columns, Sheets.{SectionModel, SheetModel, lines_of, sheet_format}, Values.ValueModel}
 use Rattle.lc_sheet.specs.declared.{column.{Column.Column, Number.{Number, TheVariants.Lines}}, form.{Form.Form, Shares.Shares}}
 use Rattle.lc_sheet.specs.declared.table_options.{Format.Format, TableOptions.TableOptions}
 use Rattle.lc_walk.specs.declared.{report.Report.Report, tally.{classes.ClassSums.ClassSums, sums.Sums.Sums}}
 use Rattle.lc_rows.specs.{Kinds.{NamedSumsModel, fault_value, file_value, row_value, skipped_value, sums_value}}
-use Rattle.lc_rows.specs.{RowKeys.ShownRowModel, SheetColumns.{fault_columns, file_columns, first_key, keeps_columns, row_columns}}
+use Rattle.lc_rows.specs.{RowKeys.ShownRowModel, SheetColumns.{fault_columns, file_columns, first_key, row_columns}}
 use Rattle.lc_rows.specs.{SheetColumns.{skipped_columns, sums_columns}, ShownFiles.AreFilesSorted, ShownRows.{AreShown, number_in}}
 use Rattle.lc_rows.specs.{Views.{ViewModel, view_of}}
 use Rattle.lc_level.specs.Level.{FileLineModel}

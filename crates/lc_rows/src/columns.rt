@@ -1,10 +1,11 @@
 //! The columns that each section of a sheet has in each format.
 
 ghost use Rattle.std.specs.Prelude.{◌≡◌, ◌++◌, if◌then◌else◌, [], IfOk, OnOk};
-ghost use Rattle.lc_rows.specs.SheetColumns.{attribute_columns, column_if, file_columns, first_key, keeps_columns, key_columns};
-ghost use Rattle.lc_rows.specs.SheetColumns.{row_columns, share_columns, shows_key, skipped_columns, sums_columns};
+ghost use Rattle.lc_rows.specs.SheetColumns.{attribute_columns, column_if, file_columns, first_key, key_columns};
+ghost use Rattle.lc_rows.specs.SheetColumns.{row_columns, shows_key, skipped_columns, sums_columns};
 ghost use Rattle.std.specs.List.{find};
 ghost use Rattle.std.specs.Option.{option_copied};
+ghost use Rattle.lc_sheet.specs.Formats.{keeps_columns, share_columns};
 ghost use Rattle.lc_sheet.specs.Keys.{report_keys};
 ghost use Rattle.lc_sheet.specs.Sheets.{sheet_format};
 
@@ -54,13 +55,6 @@ const SKIPPED_RECORDS: [Column; 6] = [
 /// The columns of errors.
 pub(crate) const LISTED_FAULTS: [Column; 2] = [Column::Fault, Column::Site];
 
-/// Returns whether a format shows the columns `ext`, `text` and `eol` of rows, even if the rows are summed over them.
-pub fn keeps_columns(format: Format) -> bool
-    ensures { result ≡ keeps_columns format }
-{
-    matches!(format, Format::Tsv)
-}
-
 /// Adds a column, if `kept` is true.
 pub fn push_if(columns: &mut Vec<Column>, kept: bool, column: Column) -> Result<(), AllocError>
     ensures { OnOk result (columns.new.items ≡ columns.old.items ++ column_if kept column) }
@@ -96,7 +90,7 @@ pub fn first_key(format: Format, by: Columns) -> Key
     if by.attributes > 0 {
         return Key::Attribute(0);
     }
-    match first_shown(keeps_columns(format), by) {
+    match first_shown(format.keeps_columns(), by) {
         Some(key) => *key,
         None => Key::Eol,
     }
@@ -106,13 +100,10 @@ pub fn first_key(format: Format, by: Columns) -> Key
 fn share_columns(options: &TableOptions) -> &'static [Column]
     ensures { result.now ≡ if options.now.share then share_columns (sheet_format options.now.output) else [] }
 {
-    if !options.share {
-        return &[];
-    }
-    match options.output.sheet_format() {
-        Format::Table => &[Column::Share, Column::Bar],
-        Format::Markdown => &[Column::Share],
-        Format::Tsv | Format::Json | Format::Csv => &[],
+    if options.share {
+        options.output.sheet_format().share_columns()
+    } else {
+        &[]
     }
 }
 
@@ -143,11 +134,8 @@ pub(crate) fn row_columns(alloc: Global, options: &TableOptions) -> Result<Vec<C
     ensures { IfOk result (λ columns. columns.items ≡ row_columns options.now) }
 {
     let mut columns = Vec::new(alloc);
-    push_keys(
-        &mut columns,
-        keeps_columns(options.output.sheet_format()),
-        options.by,
-    )?;
+    let format = options.output.sheet_format();
+    push_keys(&mut columns, format.keeps_columns(), options.by)?;
     columns.extend_from_slice(&NUMBERS)?;
     columns.extend_from_slice(share_columns(options))?;
     Ok(columns)
@@ -157,10 +145,7 @@ pub(crate) fn row_columns(alloc: Global, options: &TableOptions) -> Result<Vec<C
 pub(crate) fn sums_columns(format: Format, rows: &[Column]) -> &[Column]
     ensures { result.now ≡ sums_columns format rows.entry.now }
 {
-    match format {
-        Format::Json | Format::Csv => &NUMBERS,
-        Format::Tsv | Format::Table | Format::Markdown => rows,
-    }
+    if format.has_records() { &NUMBERS } else { rows }
 }
 
 /// Makes the columns of a list of files. In records, files have the directory and the attributes that rows are grouped by.
@@ -172,14 +157,13 @@ pub(crate) fn file_columns(
     ensures { IfOk result (λ columns. columns.items ≡ file_columns format by) }
 {
     let mut columns = Vec::new(alloc);
-    match format {
-        Format::Json | Format::Csv => {
-            columns.push(Column::Path)?;
-            push_if(&mut columns, by.dir.is_some(), Column::Key(Key::Dir))?;
-            push_attributes(&mut columns, by)?;
-            columns.extend_from_slice(&RECORDED_FILES)?;
-        }
-        Format::Tsv | Format::Table | Format::Markdown => columns.extend_from_slice(&LISTED_FILES)?,
+    if format.has_records() {
+        columns.push(Column::Path)?;
+        push_if(&mut columns, by.dir.is_some(), Column::Key(Key::Dir))?;
+        push_attributes(&mut columns, by)?;
+        columns.extend_from_slice(&RECORDED_FILES)?;
+    } else {
+        columns.extend_from_slice(&LISTED_FILES)?;
     }
     Ok(columns)
 }
@@ -188,8 +172,9 @@ pub(crate) fn file_columns(
 pub(crate) fn skipped_columns(format: Format) -> &'static [Column]
     ensures { result.now ≡ skipped_columns format }
 {
-    match format {
-        Format::Tsv | Format::Table | Format::Markdown => &LISTED_SKIPPED,
-        Format::Json | Format::Csv => &SKIPPED_RECORDS,
+    if format.has_records() {
+        &SKIPPED_RECORDS
+    } else {
+        &LISTED_SKIPPED
     }
 }

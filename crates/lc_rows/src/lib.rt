@@ -39,7 +39,7 @@ mod states;
 mod values;
 mod words;
 
-pub use columns::{first_key, keeps_columns, push_attributes, push_if, push_keys};
+pub use columns::{first_key, push_attributes, push_if, push_keys};
 pub use cut::split_at_top;
 pub use directories::{directory_at, level_of, name_of, own_part};
 pub use directory_tree::tree_rows;

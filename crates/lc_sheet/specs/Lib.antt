@@ -1,4 +1,5 @@
 pub mod AttributeColumns
+pub mod Formats
 pub mod Keys
 pub mod ColumnWords
 pub mod Values

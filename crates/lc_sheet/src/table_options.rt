@@ -1,11 +1,12 @@
 //! The options of a table: its format, its columns, its order, where it is cut, and which files it shows.
 
 ghost use Rattle.std.specs.Prelude.{◌≡◌};
+ghost use Rattle.lc_sheet.specs.Formats.{has_records, is_for_reading, keeps_columns, share_columns};
 ghost use Rattle.lc_sheet.specs.Keys.{are_all, are_of_files, has_key, with_key};
 ghost use Rattle.lc_sheet.specs.Sheets.{sheet_format};
 
 use crate::attribute_column::AttributeColumn;
-use crate::column::Number;
+use crate::column::{Column, Number};
 use crate::condition::Condition;
 use crate::key::Key;
 use lc_text::PathEnd;
@@ -23,6 +24,33 @@ pub enum Format {
     Csv,
     /// Tables of GitHub Flavored Markdown.
     Markdown,
+}
+
+impl Format {
+    /// Returns whether rows have the columns `ext`, `text` and `eol` even if they are summed over them.
+    pub fn keeps_columns(self) -> bool
+        ensures { result ≡ keeps_columns self }
+    {
+        matches!(self, Format::Tsv)
+    }
+
+    /// Returns whether lines are records: each has all that is known of one thing, and sums are no lines among the rows.
+    pub fn has_records(self) -> bool
+        ensures { result ≡ has_records self }
+    {
+        matches!(self, Format::Json | Format::Csv)
+    }
+
+    /// Returns the columns that show each row's share of the total.
+    pub fn share_columns(self) -> &'static [Column]
+        ensures { result.now ≡ share_columns self }
+    {
+        match self {
+            Format::Table => &[Column::Share, Column::Bar],
+            Format::Markdown => &[Column::Share],
+            Format::Tsv | Format::Json | Format::Csv => &[],
+        }
+    }
 }
 
 /// What a report is shown as: what a value of `--format` names.
@@ -49,6 +77,13 @@ impl Output {
             Output::Picture | Output::Tree => Format::Table,
             Output::Paths => Format::Csv,
         }
+    }
+
+    /// Returns whether it is a text that is laid out for reading, whose rows begin with the largest.
+    pub fn is_for_reading(self) -> bool
+        ensures { result ≡ is_for_reading self }
+    {
+        matches!(self, Output::Text(Format::Table | Format::Markdown))
     }
 }
 
