@@ -66,7 +66,7 @@ invariant_of-pass-2 g c = let p = c.args.pass.now in let sq = c.args.self.now.sq
           (subst (λ v. AreTaken p.taken v.seen) (sym me) (marked_looked _ _ p.seat.me.0 c.draw-is_drawn.new.seat.me.0 drew.3 p.marked));
       listed = let v = p.seat.me.0 in let u = c.draw-is_drawn.new.seat.me.0 in
           listed_more _ _ _ _ _ p.newest c.note.new.self c.fill.new.seat.me.0 c.open_drawn.new.seat.me.0 c.open_drawn.ensures.rule.1.4
-          c.note.ensures
+          c.note.ensures.adds
           (subst (λ z. AreListed p.newest z.seen) (sym me) (listed_on p.newest v u (keeps_looked _ v u drew.3) p.listed));
       all_used = λ full. let x = p.all_used full in absurd (omega arith);
     }
