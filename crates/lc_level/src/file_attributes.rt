@@ -1,6 +1,7 @@
 //! The states of attributes that a counted file has.
 
-ghost use Rattle.std.specs.Prelude.{◌≡◌, map, true, IfOk, IfSome};
+ghost use Rattle.std.specs.Prelude.{◌≡◌, ◌≢◌, ◌↔◌, map, true, IfOk, IfNone, IfSome};
+ghost use Rattle.std.specs.List.{All, Any};
 ghost use Rattle.std.specs.Arc.{arc_value};
 ghost use Rattle.lc_level.specs.FileAttributes.{attributes_with, owned_state};
 ghost use Rattle.lc_rules.specs.Models.{state_model};
@@ -45,7 +46,7 @@ impl AttributeState {
     }
 
     fn is(&self, state: State<'_>) -> bool
-        ensures { result ≡ true → owned_state self.now ≡ state_model state.entry }
+        ensures { (result ≡ true) ↔ (owned_state self.now ≡ state_model state.entry) }
     {
         match (self, state) {
             (AttributeState::Set, State::Set)
@@ -90,9 +91,9 @@ impl FileAttributes {
     }
 }
 
-/// Returns whether these are the same states. The result may be false only if they are not.
+/// Returns whether these are the same states.
 fn are_same(owned: &[AttributeState], states: &[State<'_>]) -> bool
-    ensures { result ≡ true → map owned_state owned.now ≡ map state_model states.now }
+    ensures { (result ≡ true) ↔ (map owned_state owned.now ≡ map state_model states.now) }
 {
     let Some((state, rest)) = owned.split_first() else {
         return states.is_empty();
@@ -128,7 +129,8 @@ impl SharedAttributes {
         text: TextState,
         asked: &[State<'_>],
     ) -> Result<Arc<FileAttributes, Global>, AllocError>
-        ensures { IfOk result (λ shared. arc_value shared ≡ attributes_with text (map state_model asked.now)) }
+        ensures shared { IfOk result (λ shared. arc_value shared ≡ attributes_with text (map state_model asked.now)) }
+        ensures once { IfOk result (λ shared. Any (λ known. arc_value known ≡ arc_value shared) self.old.kept.items → self.new ≡ self.old) }
     {
         if let Some(known) = self.find(text, asked) {
             return Ok(Arc::try_clone(known)?);
@@ -142,7 +144,9 @@ impl SharedAttributes {
     }
 
     fn find(&self, text: TextState, asked: &[State<'_>]) -> Option<&Arc<FileAttributes, Global>>
-        ensures { IfSome result (λ found. arc_value found.now ≡ attributes_with text (map state_model asked.now)) }
+        ensures found { IfSome result (λ found. arc_value found.now ≡ attributes_with text (map state_model asked.now)) }
+        ensures none { IfNone result
+            (All (λ known. arc_value known ≢ attributes_with text (map state_model asked.now)) self.now.kept.items) }
     {
         for known in &self.kept {
             if known.text == text && are_same(&known.asked, asked) {
