@@ -37,3 +37,4 @@ pub mod Walks
 pub mod WorkerResults
 pub mod IncludedFiles
 pub mod ReportTotals
+pub mod SmallTops

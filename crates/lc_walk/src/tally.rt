@@ -7,7 +7,7 @@
 //! - `keyed_rows`: the rows of a tally, found by their keys
 //! - `row_hints`: the last known place of a key's row
 //! - `row_sums`: the sums over rows of several tallies
-ghost use Rattle.std.specs.Prelude.{◌≡◌, ◌+◌, ◌<◌, ◌≤◌, ◌^◌, List, [], ◌∷◌, ◌++◌, option_map, IfOk, IsOk, IsTrue, OnOk, OnErr};
+ghost use Rattle.std.specs.Prelude.{◌≡◌, ◌+◌, ◌<◌, ◌≤◌, ◌^◌, List, [], ◌∷◌, ◌++◌, nat_le, option_map, IfOk, IsOk, IsTrue, OnOk, OnErr};
 ghost use Rattle.lc_walk.specs.TallyRows.{AddsUp, has_row, sums_of_rows};
 ghost use Rattle.lc_walk.specs.Sums.{IsInRange, IsModest};
 ghost use Rattle.lc_walk.specs.Tally.{StandsFor, CountedFile, IsTally, Grows, counted, key_of};
@@ -35,7 +35,7 @@ pub use tally_row::TallyRow;
 
 /// The greatest number of files in a tally. A walk counts fewer than 2^40 files, so no tally is ever full. Workers compare the number of
 /// files with this limit, so that they need not add up all rows to see that no sum overflows.
-pub(crate) const MAX_FILES: u64 = 1 << 63;
+const MAX_FILES: u64 = 1 << 63;
 
 /// The tally of the files counted so far.
 ///
@@ -83,6 +83,13 @@ impl Tally {
         ensures { result ≡ self.now.totals }
     {
         self.totals
+    }
+
+    /// Returns whether `more` files can be added.
+    pub(crate) fn has_room(&self, more: u64) -> bool
+        ensures { result ≡ nat_le (self.now.totals.files + more) (2 ^ 63) }
+    {
+        more <= MAX_FILES - self.totals.files
     }
 
     /// Adds a file with an extension and a state of the attribute `text`. `count` has the file's lines, blank lines, bytes and line ends.
@@ -153,7 +160,7 @@ impl Tally {
         ensures grows { OnOk result (Grows self.old self.new key.now more) }
         ensures unchanged { OnErr result (self.new ≡ self.old) }
     {
-        if more.files > MAX_FILES - self.totals.files || !more.is_modest() {
+        if !self.has_room(more.files) || !more.is_modest() {
             return Err(AllocError);
         }
         self.grow(key, more)

@@ -1,7 +1,8 @@
 //! The whole walk over a tree: making the board that the workers share, running the workers, and making the report.
-ghost use Rattle.std.specs.Prelude.{◌≤◌};
+ghost use Rattle.std.specs.Prelude.{◌≡◌, ◌≤◌, [], true};
 ghost use Rattle.lc_level.specs.TreeAnswers.{MayAnswer};
 ghost use Rattle.lc_walk.specs.BoardAnswers.{WalkAnswers};
+ghost use Rattle.lc_walk.specs.SmallTops.{MayBeSmall};
 ghost use Rattle.lc_walk.specs.WalkOptions.{AreWithinLimits, asked_by, top_of};
 ghost use Rattle.lc_walk.specs.Walks.{Walks};
 
@@ -13,7 +14,7 @@ use crate::walk_fault::WalkFault;
 use crate::workers::{Gathered, gather, run_all};
 use lc_board::{Shared, Words};
 use lc_level::Job;
-use lc_tree::Tree;
+use lc_tree::{ReadFault, Tree};
 use std::alloc::Global;
 use std::sync::Wait;
 use std::thread::Threads;
@@ -113,11 +114,14 @@ pub fn walk<T: Tree, R: Threads + Wait + Sync>(
     walk_on::<Words<Job, Row>, T, R>(rt, alloc, tree, options)
 }
 
-/// Returns whether a tree's top can't be listed or has at most one entry, so that several workers would not walk it faster than one.
-fn is_small<T: Tree>(alloc: Global, tree: &T) -> bool {
+/// Returns whether a tree's top can't be read or has at most one entry, so that several workers would not walk it faster than one. Returns
+/// false if an allocation fails.
+fn is_small<T: Tree>(alloc: Global, tree: &T) -> bool
+    ensures { result ≡ true → MayBeSmall (T.has_names tree.now []) }
+{
     match tree.names(alloc, b"") {
         Ok(Some(names)) => names.len() <= 1,
-        Ok(None) => false,
+        Ok(None) | Err(ReadFault::Memory) => false,
         Err(_) => true,
     }
 }

@@ -64,6 +64,7 @@ pub struct Worker<'w, 'o, B, T, W> {
     idle: &'w IdleThreads,
     ghost selects: { reader.filters.now ≡ (asked_by options.now).filters },
     ghost keeps: { reader.options.left_out ≡ options.now.lists.left_out },
+    ghost notes: { reader.options.named ≡ options.now.named },
 }
 
 impl<'w, 'o, B, T, W> Worker<'w, 'o, B, T, W> {

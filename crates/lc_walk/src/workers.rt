@@ -10,7 +10,7 @@ ghost use Rattle.lc_walk.specs.WalkOptions.{asked_by};
 
 use crate::options::Options;
 use crate::row::Row;
-use crate::tally::{MAX_FILES, Tally};
+use crate::tally::Tally;
 use crate::worker::{StopReason, Worker, WorkerResult};
 use lc_board::Shared;
 use lc_level::Job;
@@ -51,12 +51,11 @@ pub(crate) fn run_all<B: Shared<Job, Row>, T: Tree, R: Threads + Wait + Sync>(
     thread::map_vec(rt, passes, &run)
 }
 
-/// Returns the tally of the files of both tallies, or `None` if an allocation fails or there are more than `MAX_FILES` files.
+/// Returns the tally of the files of both tallies, or `None` if an allocation fails or a tally has no room for so many files.
 fn merge(first: Tally, second: Tally) -> Option<Tally>
     ensures { IfSome result (λ t. (fs gs : List CountedFile) → StandsFor first fs → StandsFor second gs → StandsFor t (fs ++ gs)) }
 {
-    let files = first.totals().files.checked_add(second.totals().files)?;
-    if files > MAX_FILES {
+    if !first.has_room(second.totals().files) {
         return None;
     }
     first.merge(second).ok()

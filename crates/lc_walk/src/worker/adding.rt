@@ -3,7 +3,7 @@ ghost use Rattle.std.specs.Prelude.{map};
 ghost use Rattle.lc_walk.specs.Serving.{AddsFiles};
 ghost use Rattle.lc_walk.specs.FoundReports.{tallied};
 
-use crate::tally::{MAX_FILES, Tally, extension};
+use crate::tally::{Tally, extension};
 use lc_level::FileLine;
 use std::alloc::AllocError;
 
@@ -12,7 +12,7 @@ pub(crate) fn add_files(tally: &mut Tally, files: &[FileLine]) -> Result<(), All
     ensures { AddsFiles (map tallied files.now) tally.old tally.new result }
 {
     for file in files {
-        if tally.totals().files >= MAX_FILES {
+        if !tally.has_room(1) {
             return Err(AllocError);
         }
         tally.add(extension(&file.path), file.text(), file.count)?;
