@@ -1,8 +1,10 @@
+pub mod BytesRead
 pub mod Decimals
 pub mod JsonKinds
 pub mod LentObjects
 pub mod ListsRead
 pub mod ObjectsRead
 pub mod ReportsRead
+pub mod TextFaults
 pub mod TextsRead
 pub mod WordTables

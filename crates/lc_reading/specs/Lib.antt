@@ -1,6 +1,7 @@
 pub mod MemberNames
 pub mod Members
 pub mod States
+pub mod StateFaults
 pub mod Lines
 pub mod Lists
 pub mod Rows
@@ -8,3 +9,4 @@ pub mod Objects
 pub mod Reports
 pub mod Kept
 pub mod Texts
+pub mod TextFaults

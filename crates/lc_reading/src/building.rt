@@ -1,10 +1,11 @@
 //! Making a report from the members that were read from its JSON object.
 
-ghost use Rattle.std.specs.Prelude.{◌≡◌, [], false, IfOk, List, MatchOption, None, OnOk, Some, option_map};
+ghost use Rattle.std.specs.Prelude.{◌≡◌, ◌≢◌, [], false, IfErr, IfOk, List, MatchOption, None, OnOk, Some, option_map};
 ghost use Rattle.lc_reading.specs.Members.{Member};
 ghost use Rattle.lc_reading.specs.Objects.{IsObjectOf};
 ghost use Rattle.lc_reading.specs.Reports.{IsReportOf};
 ghost use Rattle.lc_reading.specs.Kept.{Agrees, IsFinished};
+ghost use Rattle.lc_reading.specs.declared.read_fault.ReadFault.TheVariants as fault;
 
 use crate::adding::{binary_adds_up, parts_add_up, rows_add_up};
 use crate::kept_files::{Kept, columns_of_rows, in_order, kept_of, tally_rows};
@@ -97,7 +98,8 @@ fn finished(
 
 /// Refuses a report that lists no files if attributes were asked for.
 fn check_listed(attributes: &[AttributeColumn], has_files: bool) -> Result<(), ReadFault>
-    ensures { OnOk result (has_files ≡ false → attributes.now ≡ []) }
+    ensures listed { OnOk result (has_files ≡ false → attributes.now ≡ []) }
+    ensures refused { IfErr result (λ f. (f ≡ fault.NoAttribute 0) × (has_files ≡ false) × (attributes.now ≢ [])) }
 {
     if has_files || attributes.is_empty() {
         Ok(())

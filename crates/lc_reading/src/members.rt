@@ -1,6 +1,6 @@
 //! The members of a JSON object.
 
-ghost use Rattle.std.specs.Prelude.{◌≡◌, ◌∷◌, [], ◌<◌, length, option_map, IfOk, OnErr, MatchOption, MatchResult};
+ghost use Rattle.std.specs.Prelude.{◌≡◌, ◌∷◌, [], ◌<◌, length, option_map, IfErr, IfOk, OnErr, MatchOption, MatchResult};
 ghost use Rattle.json.specs.Json.{Json};
 ghost use Rattle.json.specs.Value.{value_view};
 ghost use Rattle.lc_reading.specs.MemberNames.{member_name};
@@ -39,6 +39,7 @@ pub(crate) fn only<'v, 'a>(
     ensures found { IfOk result (λ found. MatchOption found (values_at name.now (members_of members.now) ≡ [])
         (λ value. values_at name.now (members_of members.now) ≡ value_view value.now ∷ [])) }
     ensures twice { OnErr result (1 < length (values_at name.now (members_of members.now))) }
+    ensures error { IfErr result (λ why. why ≡ twice) }
 {
     let Some((value, others)) = first_member(members, name) else {
         return Ok(None);

@@ -1,8 +1,9 @@
 //! Reading the reports in a text.
 
-ghost use Rattle.std.specs.Prelude.{◌≡◌, ◌++◌, ◌<◌, true, length, Err, IfOk, OnOk};
+ghost use Rattle.std.specs.Prelude.{◌≡◌, ◌++◌, ◌<◌, true, length, slice_get, Err, IfErr, IfOk, OnOk};
 ghost use Rattle.std.specs.List.{list_all};
 ghost use Rattle.json.specs.Word.{is_space};
+ghost use Rattle.lc_reading.specs.TextFaults.{HasNoObject, first_byte, is_brace};
 ghost use Rattle.lc_reading.specs.Texts.{AreReportsOf, IsJson, IsReportText};
 ghost use Rattle.lc_reading.specs.declared.read_fault.NoReport.TheVariants as why;
 ghost use Rattle.lc_reading.specs.declared.read_fault.ReadFault.TheVariants as fault;
@@ -30,7 +31,9 @@ fn is_blank(text: &[u8]) -> bool
 }
 
 /// Returns the error for a text that has no JSON object at the byte with this index.
-fn no_object(at: usize) -> ReadFault {
+fn no_object(at: usize) -> ReadFault
+    ensures { result ≡ fault.NoReport (why.NoObject at) }
+{
     ReadFault::NoReport(NoReport::NoObject(at))
 }
 
@@ -68,13 +71,32 @@ fn report_in(
     report_of(alloc, object, attributes)
 }
 
+/// Returns the index of the first byte that isn't white space.
+fn first_byte(text: &[u8]) -> Option<usize>
+    ensures { result ≡ first_byte text.now }
+{
+    text.iter().position(|byte| !is_space(*byte))
+}
+
+fn has_brace(text: &[u8], at: usize) -> bool
+    ensures { result ≡ is_brace (slice_get text.now at) }
+{
+    match text.get(at) {
+        Some(byte) => *byte == b'{',
+        None => false,
+    }
+}
+
 /// Splits a text after the JSON object at its beginning. `start` is the index of the text's first byte in the input.
 fn cut(text: &[u8], start: usize) -> Result<(&str, &[u8]), ReadFault>
     ensures parts { IfOk result (λ parts. text.now ≡ parts.0.now ++ parts.1.now) }
     ensures shorter { IfOk result (λ parts. length parts.1.now < length text.now) }
+    ensures refused { IfErr result (HasNoObject text.now start) }
 {
-    let begin = text.iter().position(|byte| !is_space(*byte)).unwrap_or(0);
-    if text.get(begin) != Some(&b'{') {
+    let Some(begin) = first_byte(text) else {
+        return Err(no_object(start));
+    };
+    if !has_brace(text, begin) {
         return Err(no_object(start.saturating_add(begin)));
     }
     let Some(length) = object_length(text) else {

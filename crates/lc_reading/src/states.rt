@@ -1,10 +1,12 @@
 //! Reading the states of attributes that a listed file has.
 
-ghost use Rattle.std.specs.Prelude.{◌≡◌, IfOk, map, string_bytes};
+ghost use Rattle.std.specs.Prelude.{◌≡◌, ◌≢◌, IfErr, IfOk, map, string_bytes};
 ghost use Rattle.json.specs.Value.{value_view};
 ghost use Rattle.lc_level.specs.FileAttributes.{owned_state};
 ghost use Rattle.lc_reading.specs.Members.{members_of};
+ghost use Rattle.lc_reading.specs.StateFaults.{IsRefusedAs, LacksSomeState, LacksState};
 ghost use Rattle.lc_reading.specs.States.{HasState, HasStates, bytes_name, state_json};
+ghost use Rattle.lc_rules.specs.Attributes.{StateModel};
 
 use crate::members::only;
 use crate::read_fault::{NoReport, ReadFault};
@@ -25,7 +27,8 @@ fn bytes_name(alloc: Global, name: &str) -> Result<String, AllocError>
 
 /// Reads the state that a value is. For a value that is no state, returns the error `bad`.
 fn state_of(alloc: Global, value: &Value<'_>, bad: NoReport) -> Result<AttributeState, ReadFault>
-    ensures { IfOk result (λ state. value_view value.now ≡ state_json (owned_state state)) }
+    ensures state { IfOk result (λ state. value_view value.now ≡ state_json (owned_state state)) }
+    ensures refused { IfErr result (IsRefusedAs bad ((state : StateModel) → value_view value.now ≢ state_json state)) }
 {
     match value {
         Value::Null => Ok(AttributeState::Unspecified),
@@ -43,7 +46,8 @@ fn state_in<'a>(
     attribute: &AttributeColumn,
     place: u8,
 ) -> Result<AttributeState, ReadFault>
-    ensures { IfOk result (λ state. HasState (members_of members.now) attribute.now (owned_state state)) }
+    ensures state { IfOk result (λ state. HasState (members_of members.now) attribute.now (owned_state state)) }
+    ensures refused { IfErr result (LacksState (members_of members.now) place attribute.now) }
 {
     let (bad, twice) = (
         NoReport::BadAttribute(place),
@@ -66,7 +70,8 @@ pub(crate) fn states_in<'a>(
     members: &[(&'a str, Value<'a>)],
     attributes: &[AttributeColumn],
 ) -> Result<Vec<AttributeState>, ReadFault>
-    ensures { IfOk result (λ states. HasStates (members_of members.now) attributes.now (map owned_state states.items)) }
+    ensures states { IfOk result (λ states. HasStates (members_of members.now) attributes.now (map owned_state states.items)) }
+    ensures refused { IfErr result (LacksSomeState (members_of members.now) 0 attributes.now) }
 {
     let mut states = Vec::new(alloc);
     let mut place: u8 = 0;

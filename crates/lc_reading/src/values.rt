@@ -1,9 +1,10 @@
 //! Reading the numbers, texts and bytes in the members of an object.
 
-ghost use Rattle.std.specs.Prelude.{ℕ, List, OnErr, ◌≡◌, ◌<◌, ◌^◌, map, decimal, IfOk, IfSome};
+ghost use Rattle.std.specs.Prelude.{ℕ, List, OnErr, ◌≡◌, ◌≢◌, ◌<◌, ◌^◌, map, decimal, IfErr, IfOk, IfSome, MatchOption};
 ghost use Rattle.json.specs.Json.{number as json_number};
 ghost use Rattle.json.specs.Value.{value_view};
 ghost use Rattle.lc_reading.specs.Members.{HasBytes, HasNumber, HasText, bytes_json, members_of, values_of};
+ghost use Rattle.lc_reading.specs.StateFaults.{AreBytes, IsRefusedAs};
 
 use crate::member_name::MemberName;
 use crate::members::{needed, optional};
@@ -65,16 +66,23 @@ pub(crate) fn text_in<'a>(
 
 #[tactic(auto, using(crate::proofs::JsonKinds::number_if))]
 fn byte_of(value: &Value<'_>) -> Option<u8>
-    ensures { IfSome result (λ byte. value_view value.now ≡ json_number (decimal byte)) }
+    ensures { MatchOption result ((b : ℕ) → b < 2 ^ 8 → value_view value.now ≢ json_number (decimal b))
+        (λ byte. value_view value.now ≡ json_number (decimal byte)) }
 {
     let text = value.as_number()?;
     let number = number(text)?;
-    u8::try_from(number).ok()
+    match u8::try_from(number) {
+        Ok(byte) => Some(byte),
+        Err(_) => None,
+    }
 }
 
 /// Reads bytes from a list of numbers, if each number is a byte.
+#[tactic(auto, using(crate::proofs::BytesRead::no_listed_bytes))]
 fn listed_bytes(alloc: Global, values: &[Value<'_>]) -> Result<Option<Vec<u8>>, AllocError>
-    ensures { IfOk result (λ found. IfSome found (λ bytes. values_of values.now ≡ map (λ b. json_number (decimal b)) bytes.items)) }
+    ensures { IfOk result (λ found. MatchOption found
+        ((bytes : List ℕ) → AreBytes bytes → values_of values.now ≢ map (λ b. json_number (decimal b)) bytes)
+        (λ bytes. values_of values.now ≡ map (λ b. json_number (decimal b)) bytes.items)) }
 {
     let mut bytes = Vec::with_capacity(alloc, values.len())?;
     let mut at = 0;
@@ -89,12 +97,14 @@ fn listed_bytes(alloc: Global, values: &[Value<'_>]) -> Result<Option<Vec<u8>>, 
 }
 
 /// Reads bytes from a list of numbers. For any other value, returns the error `bad`.
+#[tactic(auto, using(crate::proofs::BytesRead::no_bytes_in))]
 pub(crate) fn bytes_of_array(
     alloc: Global,
     value: &Value<'_>,
     bad: NoReport,
 ) -> Result<Vec<u8>, ReadFault>
-    ensures { IfOk result (λ bytes. value_view value.now ≡ bytes_json bytes.items) }
+    ensures bytes { IfOk result (λ bytes. value_view value.now ≡ bytes_json bytes.items) }
+    ensures refused { IfErr result (IsRefusedAs bad ((bytes : List ℕ) → AreBytes bytes → value_view value.now ≢ bytes_json bytes)) }
 {
     let Value::Array(values) = value else {
         return Err(ReadFault::NoReport(bad));

@@ -11,4 +11,4 @@ returns c ms o =
     (subst (λ vs. IsNumbersOf (members_of vs) c.in_ok-numbers.numbers) c.deref.ensures.value c.in_ok-numbers.ensures)
     (c.is_cut.ensures c.if-is_cut.false) (search rules) (search rules) c.in_ok-skipped.ensures
     (subst (λ (rs : List ReadRow). HaveColumns c.in_ok-columns.columns rs) c.deref-2.ensures.value c.in_ok-columns.ensures)
-    c.in_ok-rows-2.ensures c.in_ok-kept.ensures c.in_ok-check_listed.ensures c.in_ok-report.ensures
+    c.in_ok-rows-2.ensures c.in_ok-kept.ensures c.in_ok-check_listed.ensures.listed c.in_ok-report.ensures

@@ -4,9 +4,9 @@ use Rattle.lc_reading.specs.{Members.members_of, States.HasStates}
 use Rattle.lc_reading.proofs.states.states_in.Goals as goal
 use Rattle.lc_rules.specs.Attributes.{StateModel}
 
-pub returns : goal.returns
-returns c =
+pub returns-clause-states : goal.returns-clause-states
+returns-clause-states c =
     subst (λ (ss : List StateModel). HasStates (members_of c.args.members.now) c.args.attributes.now ss)
     (append-nil (map owned_state c.attributes.states.items))
-    (c.attributes.invariant [] (subst (λ (ns : List (List ℕ)). HasStates (members_of c.args.members.now) ns [])
+    (c.attributes.invariant.0 [] (subst (λ (ns : List (List ℕ)). HasStates (members_of c.args.members.now) ns [])
     (sym (nil_from_length c.attributes.rest.now c.in_default.ensures.cases)) tt))
