@@ -29,7 +29,7 @@ test: rt
 
 # rt alone would run fewer checks side by side, since it counts a check's memory for more than it takes
 gate: rt
-	@echo "make: proves every crate from nothing, tries the mutants and runs the tests: an hour on 4 cores"
+	@echo "make: proves every crate from nothing, tries the mutants and runs the tests: 40 minutes on 4 cores"
 	tools/formatted
 	RT_JOBS=$${RT_JOBS:-$$(tools/build --cores)} tools/gate-times rt ci
 
