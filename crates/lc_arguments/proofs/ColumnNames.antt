@@ -2,12 +2,14 @@
 use Rattle.std.proofs.lemmas.Grind.{common_steps}
 use Rattle.std.proofs.Common.{◌≡◌, ◌∙◌, ◌+◌, ◌≤◌, ◌<◌, ◌⊎◌, inl, inr, ℕ, suc, max, min, Bool, true, false, ◌&&◌, ◌||◌}
 use Rattle.std.proofs.Common.{List, [], ◌∷◌, length, filter, Option, Some, None, is_some, unwrap_or, IfSome, refl, ap, sym, subst, arith}
+use Rattle.std.proofs.Common.{codes}
 use Rattle.std.proofs.lemmas.{Bool.Decides.nat_tests, Slice.Eq.bytes_eq-Decides}
 use Rattle.std.specs.{Bool.MatchBool, Borrow.Bor, List.list_all, Str.bytes_eq}
 use Rattle.lc_sheet.specs.declared.table_options.Columns.{Columns}
 use Rattle.lc_sheet.specs.{Keys.{has_key, key_name, with_key}, declared.key.Key.{Key, TheVariants.{Dir, Attribute}}}
 use Rattle.lc_sheet.specs.AttributeColumns.{language_name}
-use Rattle.lc_arguments.specs.{AttributeWords.{how_often, names_attribute, names_column}, Options.max_depth}
+use Rattle.lc_arguments.specs.{AttributeWords.{how_often, names_attribute, names_column}, ConditionWords.number_in, Options.max_depth}
+use Rattle.lc_arguments.specs.{ReadNumbers.{IsNumberTo, if_within}, Texts.after_front}
 use Rattle.lc_arguments.specs.TableWords.{AreColumnsBy, AreNamesOf, IsColumnsText}
 use Rattle.lc_arguments.specs.TableWords.{IsKeyAfter, IsNoKeyAfter, is_fixed, is_key_name, max_attributes, max_columns, once_if}
 
@@ -150,8 +152,22 @@ undirected text (Some n) c are some none is_tree (Some d) by =
     let zero : once_if (is_some c.dir) ≡ 0 = ap once_if none in
     absurd (omega (arith, by.named.each Dir refl, are.each Dir refl, one, zero))
 
+-- a number that was read, or one, is within its limit
+number_within : (most : ℕ) (value : Option (List ℕ)) (n : Option ℕ) → 1 ≤ most → IsNumberTo most value n
+    → (1 ≤ unwrap_or n 1) × (unwrap_or n 1 ≤ most)
+number_within most value None least is = (omega arith, least)
+number_within most None (Some n) least is = absurd (cc)
+number_within most (Some text) (Some n) least is = limits (number_in (unwrap_or (after_front (codes "+") text) text)) is
+  where
+    limits : (read : Option ℕ) → Some (Some n) ≡ Some (if_within most read) → (1 ≤ n) × (n ≤ most)
+    limits read is = grind (arith, common_steps, nat_tests)
+
+-- of one value one number is read
+pub one_number : (most : ℕ) (value : Option (List ℕ)) (m n : Option ℕ) → IsNumberTo most value m → IsNumberTo most value n → m ≡ n
+one_number most value m n h1 h2 = grind (arith, common_steps)
+
 -- directories are cut to a number of segments that is within the limit of what was given, or one
-pub depth_within : (is_tree : Bool) (depth : Option ℕ) (columns : Option Columns) (by : Option (List ℕ))
-    → AreColumnsBy is_tree by depth columns → 1 ≤ unwrap_or depth 1 → unwrap_or depth 1 ≤ max_depth
+pub depth_within : (is_tree : Bool) (depth : Option ℕ) (columns : Option Columns) (by value : Option (List ℕ))
+    → AreColumnsBy is_tree by depth columns → IsNumberTo max_depth value depth
     → IfSome columns (λ c. IfSome c.dir (λ segments. (1 ≤ segments) × (segments ≤ max_depth)))
-depth_within is_tree depth columns by h1 h2 h3 = grind (arith, common_steps)
+depth_within is_tree depth columns by value h1 h2 = grind (arith, common_steps, number_within)

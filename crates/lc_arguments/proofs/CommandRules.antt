@@ -9,12 +9,12 @@ use Rattle.clap.specs.{Built.{AddsArg, AddsInTurn, AddsSubcommand, FitsChain, Ha
 use Rattle.clap.specs.{Matches.one_text, Values.IsSignedIn}
 use Rattle.clap.specs.declared.builder.{arg.Arg.Arg, command.Command.{Command, TheViews.out-Command}}
 use Rattle.clap.specs.declared.builder.{value_parser.ValueParser.{ValueParser, TheVariants.Signed}}
-use Rattle.clap.specs.{declared.parser.matches.Found.Found, Simple.{App, app_of, new_rule, with_rule, with_subcommand}, Walk.Rule}
+use Rattle.clap.specs.{Simple.{App, app_of, new_rule, with_rule, with_subcommand}, Walk.Rule}
 use Rattle.clap.specs.Walk.{rule_of}
 use Rattle.lc_arguments.specs.CommandLine.{app_with, bare_app, lc_app, option_rule, rules_in, with_rules, with_subcommands}
 use Rattle.lc_arguments.specs.{CountArgs.{AreArgsOf, IsArgOf, IsBare, IsCommandOf}, Directories.are_distinct}
-use Rattle.lc_arguments.specs.{Options.{is_of, max_depth, max_dirs, max_threads, max_top, option_model, options}}
-use Rattle.lc_arguments.specs.{ReadNumbers.{AreCutsReadWithin, AreReadBy, AreReadWithin, ReadsWithin, parser_named}}
+use Rattle.lc_arguments.specs.{Options.{is_of, option_model, options}}
+use Rattle.lc_arguments.specs.{ReadNumbers.{ReadsWithin, parser_named}}
 use Rattle.lc_arguments.specs.declared.option_row.OptionRow.{OptionRow}
 use Rattle.lc_arguments.specs.{declared.option_row.Subcommand.{Subcommand, TheVariants.{Count, Explain, Check, Sum, Diff, Languages}}}
 use Rattle.lc_arguments.proofs.ReadValues.{read_in_chain}
@@ -199,17 +199,3 @@ apart Check = refl
 apart Sum = refl
 apart Diff = refl
 apart Languages = refl
-
-module _ (rules : List Rule) (found : Found) (read : AreReadBy rules found) where
-  -- a number of the name has a limit by the rules
-  abbrev pub IsLimit : List ℕ → ℕ → Type 0
-  IsLimit id most = parser_named id rules ≡ Some (Some (Signed (pos 1) (pos most)))
-
-  -- the numbers of a table are within their limits
-  pub cuts_within : IsLimit (codes "depth") max_depth → IsLimit (codes "top") max_top → AreCutsReadWithin found
-  cuts_within depth top = grind (arith, common_steps)
-
-  -- and so are those of a walk
-  pub numbers_within : IsLimit (codes "threads") max_threads → IsLimit (codes "max-dirs") max_dirs → IsLimit (codes "depth") max_depth
-      → IsLimit (codes "top") max_top → AreReadWithin found
-  numbers_within threads dirs depth top = grind (arith, common_steps, cuts_within)

@@ -64,8 +64,10 @@ unread_for app No words why fine bad = grind (arith, common_steps)
 module _ (command : Subcommand) (words : List (List ℕ)) (found : Found) (parsed : IsParsedAs command words found) where
   -- values that clap found are refused
   pub refused_in : (No : List Row → Type 0) (why : ParseExit)
-      → IsRefusedFor (AreReadBy (rules_in command options) found → No (rows_of found)) why → IsUnread (command_app command) No words why
-  refused_in No why refused = grind (arith, common_steps, unread_for, refused_with)
+      → IsRefusedFor (No (rows_of found)) why → IsUnread (command_app command) No words why
+  refused_in No why refused =
+      unread_for (command_app command) No words why parsed.faults
+      (subst (λ (rows : List Row). IsRefusedFor (No rows) why) parsed.rows refused)
 
   module _ {A : Type 0} (Is : List Row → A → Type 0) (fits : A → Bool) (request : A)
       (is : AreReadBy (rules_in command options) found → Is (rows_of found) request) where

@@ -160,19 +160,6 @@ read_in_chain start cmd xs k d m chain args groups globals all distinct lt p q p
     q (ap (λ x. x.value_parser) elem ∙ rules.parser q parser) t (rw same-now text) in
     (got.0, got.1, subst (λ (c : Bool). Accepts c q got.0) (ap (λ x. x.ignore_case) elem ∙ rules.ignore_case) got.2)
 
--- a number that was read, where one was, is the one that the text says
-pub number_if_given : (E : Type 0) (G : List ℕ → Result ℕ E → Type 0) (low high : ℕ) (o : Option (List ℕ)) (r : Option ℕ)
-    → (o ≡ None → r ≡ None) → ((t : List ℕ) → o ≡ Some t → ReadsOne G t r)
-    → ((u : List ℕ) (x : Result ℕ E) → G u x → ParsesUnsigned 32 10 u x) → high < 2 ^ 32
-    → ((t : List ℕ) → o ≡ Some t → (v : List ℕ) × (t ≡ without_minus v) × IsSignedIn (pos low) (pos high) v)
-    → r ≡ option_map (λ (t : List ℕ). digits_value 10 (without_leading_plus t)) o
-number_if_given E G low high None r none value only fits read = none refl
-number_if_given E G low high (Some t) r none value only fits read =
-    let got = read t refl in
-    let one = signed_reads E G 32 low high got.0 r (subst (λ (u : List ℕ). ReadsOne G u r) got.1 (value t refl)) only fits got.2 in
-    let given : G t (Ok one.0) = subst (λ (v : Option ℕ). ReadsOne G t v) one.1 (value t refl) in
-    one.1 ∙ ap Some (only t (Ok one.0) given).1
-
 -- a number that was read, or that of the default in its place, lies in the range of its parser and is the one that the text says
 pub number_read : (E : Type 0) (G : List ℕ → Result ℕ E → Type 0) (low high other : ℕ) (default : List ℕ) (o : Option (List ℕ))
     (r : Option ℕ) (n : ℕ)

@@ -10,7 +10,6 @@ use Rattle.clap.proofs.{WalkLemmas.{first_value-rows, one_text-rows, raw_values-
 use Rattle.lc_arguments.specs.{CommandLine.{command_app, lc_app}, Explained.Explains, Words.{IsFlag, IsText, IsNoRequestBy, texts_read}}
 use Rattle.lc_arguments.specs.{declared.option_row.Subcommand.{Subcommand}}
 use Rattle.lc_arguments.specs.{declared.request.ParseExit.{ParseExit}, ReadNumbers.IsNumber}
-use Rattle.lc_arguments.specs.ReadNumbers.{number_if_given}
 use Rattle.clap.specs.declared.error.kind.ErrorKind.TheVariants as kind
 
 -- each command is of the simple kind, of which clap says all
@@ -74,11 +73,6 @@ flag_of rows f id b are set unset = grind (arith, common_steps, one_text-rows)
 pub number_of : (rows : List Row) (f : Found) (id default : Text) (n : ℕ) → rows_of f ≡ rows
     → n ≡ digits_value 10 (without_leading_plus (unwrap_or (one_text f id) default)) → IsNumber id default rows n
 number_of rows f id default n are is = grind (arith, common_steps, one_text-rows)
-
--- a number that was read, where one was, is that of the words
-pub number_if_of : (rows : List Row) (f : Found) (id : Text) (n : Option ℕ) → rows_of f ≡ rows
-    → n ≡ option_map (λ (t : Text). digits_value 10 (without_leading_plus t)) (one_text f id) → n ≡ number_if_given id rows
-number_if_of rows f id n are is = grind (arith, common_steps, one_text-rows)
 
 -- texts that were read are those of the words, or none
 pub texts_of : (rows : List Row) (f : Found) (id : Text) (o : Option (Bor (List (Bor Text)))) (none result : Bor (List (Bor Text)))

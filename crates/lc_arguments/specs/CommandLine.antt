@@ -3,16 +3,17 @@ use Rattle.std.specs.Prelude.{ℕ, true, List, [], ◌∷◌, map, filter, pos, 
 use Rattle.clap.specs.{Simple.{App, Shape, new_app, new_rule, on_top, with_rule, with_subcommand}, Walk.Rule}
 use Rattle.clap.specs.declared.builder.{action.ArgAction.TheVariants.{Append, Set, SetTrue}, value_parser.ValueParser.TheVariants.Signed}
 use Rattle.lc_arguments.specs.Options.{OptionModel, is_of, options}
-use Rattle.lc_arguments.specs.declared.option_row.Kind.{Kind, TheVariants.{Flag, Text, Texts, Number, Word, Words}}
+use Rattle.lc_arguments.specs.declared.option_row.Kind.{Kind, TheVariants.{Flag, Text, Texts, Number, Range, Word, Words}}
 use Rattle.lc_arguments.specs.declared.option_row.Subcommand.{Subcommand, TheVariants.{Count, Explain, Check, Sum, Diff, Languages}}
 
 -- an argument of this kind with this name: an option without a value, with a text, with a text and repeatable, or with a number from 1 to a
--- limit; or, without a hyphen, a required argument, or any number of arguments
+-- limit, which is a text to clap or which clap tests; or, without a hyphen, a required argument, or any number of arguments
 abbrev pub kind_rule : Kind → List ℕ → Rule
 kind_rule Flag name = record (new_rule name) { long = Some name; action = Some SetTrue }
 kind_rule Text name = record (new_rule name) { long = Some name; value_names = 1; action = Some Set }
 kind_rule Texts name = record (new_rule name) { long = Some name; value_names = 1; action = Some Append }
-kind_rule (Number most) name = record (new_rule name) {
+kind_rule (Number most) name = record (new_rule name) { long = Some name; value_names = 1; action = Some Set }
+kind_rule (Range most) name = record (new_rule name) {
   long = Some name;
   value_names = 1;
   action = Some Set;

@@ -8,9 +8,9 @@ use Rattle.lc_arguments.specs.Words.{IsText, IsNoRequestBy, IsCheckOf, IsExplain
 use Rattle.lc_arguments.specs.Words.{AsksNoTable, AreAttributesOf, AreFiltersOf, IsFitCountOf, IsFitSumOf, AreConditionsOf, IsWholeTableIn}
 use Rattle.lc_arguments.specs.{ConditionWords.compares_sides, Words.Misvalue}
 use Rattle.lc_arguments.specs.Words.{directories_read, is_bad_part, part_of, reports_read, texts_read, values_read, AsksNoDiff}
-use Rattle.lc_arguments.specs.{Words.{AsksNoWalk, IsFitDiffOf, IsWalkOf}, ReadNumbers.{AreCutsIn, AreNumbersIn, AreReadBy}}
+use Rattle.lc_arguments.specs.{Words.{AsksNoWalk, IsFitDiffOf, IsWalkOf}, ReadNumbers.{AreReadBy, AreReadWithin, IsNumberTo}}
 use Rattle.lc_arguments.specs.{Directories.{are_distinct, unslashed}, Repeated.are_allowed, Reports.{name_reports, named_of, report_model}}
-use Rattle.lc_arguments.specs.{TableWords.{AreColumnsBy, IsTableBy, order_word, output_word}, declared.numbers.{Cuts.Cuts, Numbers.Numbers}}
+use Rattle.lc_arguments.specs.TableWords.{AreColumnsBy, IsTableBy, order_word, output_word}
 use Rattle.lc_arguments.specs.declared.{repeated.Repeated.{Repeated, TheVariants.Conditions}, table.TableRequest.TableRequest}
 use Rattle.lc_arguments.specs.declared.request.ParseExit.{ParseExit, TheVariants.{Shown, Refused, Memory}}
 use Rattle.lc_arguments.specs.declared.request.Request.{Request, TheVariants.CheckJoined}
@@ -59,11 +59,10 @@ pub record IsParsedAs (command : Subcommand) (words : List (List ℕ)) (found : 
   pub rows : rows_of found ≡ matches_of (command_app command) words
   pub numbers : AreReadBy (rules_in command options) found
 
--- if what clap read of numbers is within their limits: the request that the values make which clap found, or that these values make none
+-- the request that the values make which clap found, if what clap read of numbers is within their limits; or these values make none
 abbrev pub AnswersIn : {A : Type 0} → Subcommand → (List Row → A → Type 0) → (List Row → Type 0) → Found → Result A ParseExit → Type 0
 AnswersIn {A} command Is No found =
-    AnswersOr (λ (a : A). AreReadBy (rules_in command options) found → Is (rows_of found) a)
-    (AreReadBy (rules_in command options) found → No (rows_of found))
+    AnswersOr (λ (a : A). AreReadBy (rules_in command options) found → Is (rows_of found) a) (No (rows_of found))
 
 -- the results of reading the words after `count`, `explain`, `sum` and `diff`
 abbrev pub AnswersCountWords : List (List ℕ) → Result CountRequest ParseExit → Type 0
@@ -163,14 +162,17 @@ AnswersColumns is_tree by depth = AnswersBy (λ (columns : Option Columns). AreC
 abbrev pub AnswersTable : Option (List ℕ) → Option (List ℕ) → Option ℕ → Option (List ℕ) → Result TableRequest ParseExit → Type 0
 AnswersTable format by depth sort = AnswersBy (IsTableBy format by depth sort)
 
--- the table that was read, if these are the numbers that were read; or the options request no table
-abbrev pub AnswersTableIn : List Row → Cuts → Result TableRequest ParseExit → Type 0
-AnswersTableIn rows cuts =
-    AnswersOr (λ (table : TableRequest). AreCutsIn rows cuts → IsWholeTableIn rows table) (AreCutsIn rows cuts → AsksNoTable rows)
+-- the number from 1 to `most` that the value of an option writes, if the option is used
+abbrev pub AnswersNumber : ℕ → Option (List ℕ) → Result (Option ℕ) ParseExit → Type 0
+AnswersNumber most value = AnswersBy (IsNumberTo most value)
 
--- how directories are counted, as it was read, if these are the numbers that were read; or the options request no walk
-abbrev pub AnswersWalkIn : List Row → Numbers → Result WalkRequest ParseExit → Type 0
-AnswersWalkIn rows numbers = AnswersOr (λ (w : WalkRequest). AreNumbersIn rows numbers → IsWalkOf rows w) (AsksNoWalk rows)
+-- the table that was read; or the options request no table
+abbrev pub AnswersTableIn : List Row → Result TableRequest ParseExit → Type 0
+AnswersTableIn rows = AnswersOr (IsWholeTableIn rows) (AsksNoTable rows)
+
+-- how directories are counted, as it was read, if what clap read of numbers is within their limits; or the options request no walk
+abbrev pub AnswersWalkIn : Found → Result WalkRequest ParseExit → Type 0
+AnswersWalkIn found = AnswersOr (λ (w : WalkRequest). AreReadWithin found → IsWalkOf (rows_of found) w) (AsksNoWalk (rows_of found))
 
 -- the result of reading the words after `check`
 abbrev pub AnswersCheckWords : List (List ℕ) → Result CheckRequest ParseExit → Type 0

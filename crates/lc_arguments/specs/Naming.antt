@@ -3,27 +3,21 @@ use Rattle.std.specs.Prelude.{◌≡◌, ◌⊎◌, ◌&&◌, not, ℕ, Bool, tr
 use Rattle.std.specs.{Prelude.{Option, Some, None, ⊤, string_bytes}, Str.Iter.HasSubslice}
 use Rattle.lc_text.specs.Visible.{visible_bytes}
 use Rattle.lc_arguments.specs.{Options.{OptionModel, is_of, options}, Words.{count_words, is_own_option}}
-use Rattle.lc_arguments.specs.declared.option_row.Kind.{Kind, TheVariants.{Flag, Text, Texts, Number, Word, Words}}
+use Rattle.lc_arguments.specs.declared.option_row.Kind.{Kind, TheVariants.{Word, Words}}
 use Rattle.lc_arguments.specs.declared.option_row.Subcommand.{Subcommand, TheVariants.{Count, Explain, Check, Diff, Languages, Sum}}
 use Rattle.lc_arguments.specs.declared.request.ParseExit.{ParseExit, TheVariants.{Shown, Refused, Memory}}
 
 -- what a message of clap has before and after the name of an argument: the hyphens of an option; or, without a hyphen, `<` and `>` around a
 -- required argument, and `[` and `]` around one that may be omitted
 abbrev pub mark_before : Kind → List ℕ
-mark_before Flag = codes "--"
-mark_before Text = codes "--"
-mark_before Texts = codes "--"
-mark_before (Number most) = codes "--"
 mark_before Word = codes "<"
 mark_before Words = codes "["
+mark_before other = codes "--"
 
 abbrev pub mark_after : Kind → List ℕ
-mark_after Flag = []
-mark_after Text = []
-mark_after Texts = []
-mark_after (Number most) = []
 mark_after Word = codes ">"
 mark_after Words = codes "]"
+mark_after other = []
 
 -- a text has the name of an argument, with what clap writes before and after the name
 abbrev pub Names : List ℕ → OptionModel → Type 0
@@ -62,12 +56,8 @@ IsTextOf (Some command) text = NamesAll command options text
 
 -- the name of an argument of this kind shows what is wrong; `Words` are in each usage line, so their names show nothing
 abbrev pub is_telling : Kind → Bool
-is_telling Flag = true
-is_telling Text = true
-is_telling Texts = true
-is_telling (Number most) = true
-is_telling Word = true
 is_telling Words = false
+is_telling other = true
 
 -- a text names one of these arguments, apart from `Words`
 abbrev pub NamesSome : List OptionModel → List ℕ → Type 0

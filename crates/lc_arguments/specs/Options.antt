@@ -1,6 +1,6 @@
 -- The arguments of all commands, as clap sees them.
 use Rattle.std.specs.Prelude.{ℕ, Bool, true, false, List, [], ◌∷◌, Option, Some, None, option_map, codes}
-use Rattle.lc_arguments.specs.declared.option_row.{Commands.Commands, Kind.{Kind, TheVariants.{Flag, Text, Texts, Number, Word, Words}}}
+use Rattle.lc_arguments.specs.declared.option_row.{Commands.Commands, Kind.{Kind, TheVariants.{Flag, Text, Texts, Number, Range, Word, Words}}}
 use Rattle.lc_arguments.specs.declared.option_row.OptionRow.{OptionRow}
 use Rattle.lc_arguments.specs.declared.option_row.Subcommand.{Subcommand, TheVariants.{Count, Explain, Check, Diff, Languages, Sum}}
 
@@ -115,8 +115,8 @@ options =
     ∷ option (codes "share") None Flag None printed
     ∷ option (codes "null") (Some 48) Flag None sum
     ∷ option (codes "fail-if-any") None Flag None printed
-    ∷ option (codes "threads") (Some 106) (Number max_threads) (Some (codes "4")) walks
-    ∷ option (codes "max-dirs") None (Number max_dirs) (Some (codes "65536")) walks
+    ∷ option (codes "threads") (Some 106) (Range max_threads) (Some (codes "4")) walks
+    ∷ option (codes "max-dirs") None (Range max_dirs) (Some (codes "65536")) walks
     ∷ option (codes "DIR") None Words (Some (codes ".")) count
     ∷ option (codes "REPORT") None Words (Some (codes "-")) sum
     ∷ option (codes "all") None Flag None diff

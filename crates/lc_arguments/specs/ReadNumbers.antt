@@ -1,11 +1,24 @@
 -- The numbers that were read of options.
-use Rattle.std.specs.{Prelude.{◌≡◌, ◌≤◌, ℕ, List, [], ◌∷◌, cond, pos, Some, None, Option, unwrap_or, option_map, codes}, Str.bytes_eq}
-use Rattle.std.specs.Str.Parse.{digits_value, without_leading_plus}
+use Rattle.std.specs.Prelude.{◌≡◌, ◌&&◌, nat_le, ℕ, List, [], ◌∷◌, cond, pos, Some, None, Option, unwrap_or, option_map, codes}
+use Rattle.std.specs.Str.{bytes_eq, Parse.{digits_value, without_leading_plus}}
 use Rattle.clap.specs.{Built.IsParsedFrom, Lexer.without_minus, Matches.found_of, Values.IsSignedIn, Walk.{Row, Rule, one_of}}
 use Rattle.clap.specs.declared.builder.{command.Command.Command, value_parser.ValueParser.{ValueParser, TheVariants.Signed}}
 use Rattle.clap.specs.declared.parser.matches.{ArgMatches.ArgMatches, Found.Found}
-use Rattle.lc_arguments.specs.{Options.{max_depth, max_dirs, max_threads, max_top}, declared.numbers.{Cuts.Cuts, Numbers.Numbers}}
+use Rattle.lc_arguments.specs.{ConditionWords.number_in, Options.{max_dirs, max_threads}, Texts.after_front}
 use Rattle.clap.specs.Matches as matches
+
+-- a number, if it is from 1 to `most`
+abbrev pub if_within : ℕ → Option ℕ → Option ℕ
+if_within most None = None
+if_within most (Some n) = cond (nat_le 1 n && nat_le n most) (Some n) None
+
+-- the number from 1 to `most` that a text writes; a plus sign may be before its digits
+abbrev pub number_to : ℕ → List ℕ → Option ℕ
+number_to most text = if_within most (number_in (unwrap_or (after_front (codes "+") text) text))
+
+-- the number from 1 to `most` that the value of an option writes, if the option is used
+abbrev pub IsNumberTo : ℕ → Option (List ℕ) → Option ℕ → Type 0
+IsNumberTo most value n = option_map Some n ≡ option_map (number_to most) value
 
 -- the value that was read of this argument, if there is one, is a number from `low` to `high`
 abbrev pub IsReadWithin : Found → List ℕ → ℕ → ℕ → Type 0
@@ -17,16 +30,10 @@ IsReadWithin found id low high =
 abbrev pub ReadsWithin : Command → List ℕ → ℕ → ℕ → Type 0
 ReadsWithin command id low high = (m : ArgMatches) → IsParsedFrom command m → IsReadWithin (found_of m) id low high
 
--- the values of `--depth` and `--top` that were read are within their limits
-pub record AreCutsReadWithin (found : Found) : Type 0 where
-  pub depth : IsReadWithin found (codes "depth") 1 max_depth
-  pub top : IsReadWithin found (codes "top") 1 max_top
-
--- each number that was read as the value of an option is within the limits of the option
+-- the values of `--threads` and `--max-dirs` that were read are within their limits
 pub record AreReadWithin (found : Found) : Type 0 where
   pub threads : IsReadWithin found (codes "threads") 1 max_threads
   pub max_dirs : IsReadWithin found (codes "max-dirs") 1 max_dirs
-  pub cuts : AreCutsReadWithin found
 
 -- the parser of the first argument with this name
 abbrev pub parser_named : List ℕ → List Rule → Option (Option ValueParser)
@@ -41,24 +48,3 @@ AreReadBy rules found =
 -- the number that the digits of an argument's value write, or the digits of its default if no value was read
 abbrev pub IsNumber : List ℕ → List ℕ → List Row → ℕ → Type 0
 IsNumber id default rows n = n ≡ digits_value 10 (without_leading_plus (unwrap_or (one_of id rows) default))
-
--- the number that the digits of an argument's value write, if a value was read
-abbrev pub number_if_given : List ℕ → List Row → Option ℕ
-number_if_given id rows = option_map (λ text. digits_value 10 (without_leading_plus text)) (one_of id rows)
-
--- the values of `--depth` and `--top`, as they were read; that of `--depth` is within its limits
-pub record AreCutsIn (rows : List Row) (c : Cuts) : Type 0 where
-  pub some_depth : 1 ≤ unwrap_or c.depth 1
-  pub within_depth : unwrap_or c.depth 1 ≤ max_depth
-  pub depth : c.depth ≡ number_if_given (codes "depth") rows
-  pub top : c.top ≡ number_if_given (codes "top") rows
-
--- the values of the options with numbers, as they were read; each but that of `--top` is within its limits
-pub record AreNumbersIn (rows : List Row) (n : Numbers) : Type 0 where
-  pub some_threads : 1 ≤ n.threads
-  pub within_threads : n.threads ≤ max_threads
-  pub threads : IsNumber (codes "threads") (codes "4") rows n.threads
-  pub some_dirs : 1 ≤ n.max_dirs
-  pub within_dirs : n.max_dirs ≤ max_dirs
-  pub max_dirs : IsNumber (codes "max-dirs") (codes "65536") rows n.max_dirs
-  pub cuts : AreCutsIn rows n.cuts

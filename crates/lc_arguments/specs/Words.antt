@@ -6,7 +6,7 @@ use Rattle.clap.specs.declared.error.kind.ErrorKind.{ErrorKind, TheVariants.{Dis
 use Rattle.lc_glob.specs.{Bytes.{hyphen, slash}, Pieces.is_byte}
 use Rattle.lc_arguments.specs.CommandLine.{count_app, check_app, diff_app, explain_app, languages_app, lc_app, sum_app}
 use Rattle.lc_arguments.specs.{AttributeWords.attributes_asked, Combinations.{diff_fits, fit_together, sum_fits}}
-use Rattle.lc_arguments.specs.Options.{max_depth, max_dirs, max_threads}
+use Rattle.lc_arguments.specs.Options.{max_depth, max_dirs, max_threads, max_top}
 use Rattle.lc_arguments.specs.ConditionWords.{all_conditions, changes_of, compares_sides}
 use Rattle.lc_arguments.specs.{Directories.{are_distinct, or_default, unslashed}, Repeated.{are_allowed, id_of}}
 use Rattle.lc_arguments.specs.declared.repeated.Repeated.{Repeated, TheVariants.{Attributes, Excluded, Included, Conditions}}
@@ -16,7 +16,7 @@ use Rattle.lc_arguments.specs.declared.request.ParseExit.{ParseExit, TheVariants
 use Rattle.lc_arguments.specs.declared.request.Request.{Request, TheVariants.{CheckJoined, Check, Count, Diff, Explain, Languages, Sum}}
 use Rattle.lc_arguments.specs.declared.{table.TableRequest.TableRequest, check.CheckRequest.CheckRequest, count.CountRequest.CountRequest}
 use Rattle.lc_arguments.specs.declared.{filter_request.FilterRequest.FilterRequest, explain.ExplainRequest.ExplainRequest}
-use Rattle.lc_arguments.specs.{Reports.{name_reports, named_of, report_model}, ReadNumbers.{IsNumber, number_if_given}}
+use Rattle.lc_arguments.specs.{Reports.{name_reports, named_of, report_model}, ReadNumbers.{IsNumber, IsNumberTo}}
 use Rattle.lc_arguments.specs.TableWords.{IsTableBy}
 use Rattle.lc_sheet.specs.Conditions.{ConditionModel}
 use Rattle.lc_text.specs.PathLines.{is_bad_path, is_top, path_of, undotted}
@@ -141,15 +141,17 @@ abbrev pub IsTableAt : List Row → Option ℕ → TableRequest → Type 0
 IsTableAt rows depth s =
     IsTableBy (first_of (codes "format") rows) (first_of (codes "by") rows) depth (first_of (codes "sort") rows) s
 
--- a table has the requested format, columns and order, and its directories are cut to the depth of `--depth`
-abbrev pub IsTableIn : List Row → TableRequest → Type 0
-IsTableIn rows s = IsTableAt rows (number_if_given (codes "depth") rows) s
+-- a table has the requested format, columns, order and number of rows, and its directories are cut to the depth of `--depth`
+pub record IsTableIn (rows : List Row) (s : TableRequest) : Type 0 where
+  pub depth : Option ℕ
+  pub depth_is : IsNumberTo max_depth (first_of (codes "depth") rows) depth
+  pub at : IsTableAt rows depth s
+  pub top : IsNumberTo max_top (first_of (codes "top") rows) s.top
 
 -- this is the requested table, apart from shares
 pub record IsPlainTableIn (rows : List Row) (s : TableRequest) : Type 0 where
   pub within : IsTableWithinLimits s
   pub named : IsTableIn rows s
-  pub top : s.top ≡ number_if_given (codes "top") rows
   pub files : IsFlag (codes "files") rows s.files
 
 -- this is the requested table

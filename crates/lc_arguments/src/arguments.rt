@@ -22,7 +22,7 @@ fn with_kind<'a>(alloc: Global, row: &'static OptionRow) -> Arg<'a>
     let arg = Arg::new(alloc, row.name);
     match row.kind {
         Kind::Flag => arg.long(row.name).action(ArgAction::SetTrue),
-        Kind::Text => arg
+        Kind::Text | Kind::Number(_) => arg
             .long(row.name)
             .value_name(row.value)
             .action(ArgAction::Set),
@@ -30,7 +30,7 @@ fn with_kind<'a>(alloc: Global, row: &'static OptionRow) -> Arg<'a>
             .long(row.name)
             .value_name(row.value)
             .action(ArgAction::Append),
-        Kind::Number(most) => arg
+        Kind::Range(most) => arg
             .long(row.name)
             .value_name(row.value)
             .action(ArgAction::Set)

@@ -174,7 +174,7 @@ fn with_digit(number: u64, byte: u8) -> Option<u64>
 }
 
 /// Reads a number below 2^64 that consists of digits.
-fn number_in(text: &[u8]) -> Option<u64>
+pub(crate) fn number_in(text: &[u8]) -> Option<u64>
     ensures { result ≡ number_in text.now }
 {
     if text.is_empty() {

@@ -11,7 +11,6 @@ use crate::changes::one_sided;
 use crate::combinations::misfit;
 use crate::conditions::conditions_in;
 use crate::directories::directories_in;
-use crate::numbers::Numbers;
 use crate::option_row::Subcommand;
 use crate::request::{ParseExit, unfit};
 use crate::table::{TableRequest, table_in};
@@ -46,10 +45,9 @@ pub struct CountRequest<'w> {
 fn request_in<'w>(alloc: Global, matches: &ArgMatches<'w>) -> Result<CountRequest<'w>, ParseExit>
     ensures { AnswersIn Count IsCountOf AsksNoCount (found_of matches.now) result }
 {
-    let numbers = Numbers::read(matches);
-    let walk = WalkRequest::read(alloc, matches, numbers)?;
+    let walk = WalkRequest::read(alloc, matches)?;
     let directories = directories_in(alloc, matches)?;
-    let table = table_in(alloc, matches, numbers.cuts)?;
+    let table = table_in(alloc, matches)?;
     one_sided(alloc, matches)?;
     let attributes = attributes_in(alloc, matches)?;
     let conditions = conditions_in(alloc, matches, &attributes)?;

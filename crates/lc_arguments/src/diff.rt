@@ -10,7 +10,6 @@ use crate::attributes::attributes_in;
 use crate::changes::changes_in;
 use crate::combinations::diff_misfit;
 use crate::conditions::conditions_in;
-use crate::numbers::Numbers;
 use crate::option_row::Subcommand;
 use crate::request::{ParseExit, unfit};
 use crate::table::{TableRequest, table_in};
@@ -48,9 +47,8 @@ pub struct DiffRequest<'w> {
 fn request_in<'w>(alloc: Global, matches: &ArgMatches<'w>) -> Result<DiffRequest<'w>, ParseExit>
     ensures { AnswersIn Diff IsDiffOf AsksNoDiff (found_of matches.now) result }
 {
-    let numbers = Numbers::read(matches);
-    let walk = WalkRequest::read(alloc, matches, numbers)?;
-    let table = table_in(alloc, matches, numbers.cuts)?;
+    let walk = WalkRequest::read(alloc, matches)?;
+    let table = table_in(alloc, matches)?;
     let attributes = attributes_in(alloc, matches)?;
     let conditions = conditions_in(alloc, matches, &attributes)?;
     Ok(DiffRequest {

@@ -120,40 +120,43 @@ fn push_meant(
     Ok(())
 }
 
-/// Makes the text that refuses a number, if clap's message `problem` is about a value of this option. `most` is the greatest allowed
-/// number.
-fn number_refusal(
-    alloc: Global,
-    problem: &str,
-    option: &OptionRow,
-    most: u32,
-) -> Result<Option<String>, AllocError> {
-    let (name, number) = (option.name, option.value);
-    let end = format!(in alloc; "' for '--{name} <{number}>': ")?;
-    let Some((start, _)) = problem.rsplit_once(end.as_str()) else {
-        return Ok(None);
-    };
-    let Some(value) = start.strip_prefix("error: invalid value '") else {
-        return Ok(None);
-    };
-    let text = format!(in alloc;
-        "error: invalid value for '--{name} <{number}>': '{value}' is no number from 1 to {most}\n\nFor more information, try '--help'.\n"
-    )?;
-    Ok(Some(text))
-}
-
-/// Makes the text that refuses a number, from the text in which clap refuses the number. A text that refuses no number is copied.
+/// Makes the text that refuses a value of an option whose values are the numbers from 1 to `most`.
 ///
 /// ```
-/// let text = "error: invalid value 'x' for '--threads <N>': invalid digit found in string\n";
-/// let refused = number_refused(rt.alloc(), text)?;
-/// assert!(rt; refused.starts_with("error: invalid value for '--threads <N>': 'x' is no number from 1 to 16\n"));
+/// let text = number_refused(rt.alloc(), "top", "x", 9)?;
+/// assert!(rt; text.starts_with("error: invalid value for '--top <N>': 'x' is no number from 1 to 9\n"));
 /// ```
-pub(crate) fn number_refused(alloc: Global, text: &str) -> Result<String, AllocError> {
+pub(crate) fn number_refused(
+    alloc: Global,
+    option: &str,
+    value: &str,
+    most: u32,
+) -> Result<String, AllocError> {
+    let (name, _) = value_named(option);
+    format!(in alloc;
+        "error: invalid value for '--{option} <{name}>': '{value}' is no number from 1 to {most}\n\nFor more information, try '--help'.\n"
+    )
+}
+
+/// Returns the value that clap's message `problem` refuses, if it is a value of this option.
+fn value_of<'t>(
+    alloc: Global,
+    problem: &'t str,
+    option: &OptionRow,
+) -> Result<Option<&'t str>, AllocError> {
+    let end = format!(in alloc; "' for '--{} <{}>': ", option.name, option.value)?;
+    match problem.rsplit_once(end.as_str()) {
+        Some((start, _)) => Ok(start.strip_prefix("error: invalid value '")),
+        None => Ok(None),
+    }
+}
+
+/// Makes the text that refuses a number from the text in which clap refuses it. A text that refuses no number is copied.
+pub(crate) fn range_refused(alloc: Global, text: &str) -> Result<String, AllocError> {
     for row in options() {
-        if let Kind::Number(most) = row.kind {
-            if let Some(refusal) = number_refusal(alloc, problem_of(text), row, most)? {
-                return Ok(refusal);
+        if let Kind::Range(most) = row.kind {
+            if let Some(value) = value_of(alloc, problem_of(text), row)? {
+                return number_refused(alloc, row.name, value, most);
             }
         }
     }

@@ -18,7 +18,7 @@
 //! - `condition_text`: the text of one condition
 //! - `changes`: the conditions of `--where` on `change`
 //! - `repeated`: the values of options that may be used several times
-//! - `numbers`: the values of options that take numbers
+//! - `numbers`: the values of `--depth` and `--top`
 //! - `limits`: the greatest values of the options that take numbers
 //! - `combinations`: options that can't be combined
 //! - `options_table`: the table of options

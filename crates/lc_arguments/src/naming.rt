@@ -22,7 +22,7 @@ fn marks(kind: Kind) -> (&'static str, &'static str)
     ensures after { result.1.now ≡ mark_after kind }
 {
     match kind {
-        Kind::Flag | Kind::Text | Kind::Texts | Kind::Number(_) => ("--", ""),
+        Kind::Flag | Kind::Text | Kind::Texts | Kind::Number(_) | Kind::Range(_) => ("--", ""),
         Kind::Word => ("<", ">"),
         Kind::Words => ("[", "]"),
     }

@@ -1,48 +1,44 @@
-//! The values of the options that take numbers.
+//! The values of `--depth` and `--top`.
 
+ghost use Rattle.std.specs.Prelude.{◌≡◌};
 ghost use Rattle.clap.specs.Matches.{found_of};
-ghost use Rattle.clap.specs.Walk.{rows_of};
-ghost use Rattle.lc_arguments.specs.ReadNumbers.{AreCutsIn, AreCutsReadWithin, AreNumbersIn, AreReadWithin};
+ghost use Rattle.clap.specs.Walk.{first_of, rows_of};
+ghost use Rattle.lc_arguments.specs.Explained.{AnswersNumber};
+ghost use Rattle.lc_arguments.specs.ReadNumbers.{number_to};
 
+use crate::condition_text::{after_front, number_in};
+use crate::request::{ParseExit, no_number};
 use clap::ArgMatches;
+use std::alloc::Global;
 
-/// The values of `--depth` and `--top`, if they were typed: where a table cuts its directories and its rows.
-#[derive(Clone, Copy)]
-pub(crate) struct Cuts {
-    pub(crate) depth: Option<u32>,
-    pub(crate) top: Option<u32>,
-}
-
-impl Cuts {
-    /// Reads the numbers from clap's values.
-    pub(crate) fn read(matches: &ArgMatches<'_>) -> Cuts
-        ensures { AreCutsReadWithin (found_of matches.now) → AreCutsIn (rows_of (found_of matches.now)) result }
-    {
-        Cuts {
-            depth: matches.get_one::<u32>("depth"),
-            top: matches.get_one::<u32>("top"),
-        }
+/// Reads a number from 1 to `most`. A plus sign may be before its digits.
+fn number_to(most: u32, text: &str) -> Option<u32>
+    ensures { result ≡ number_to most text.now }
+{
+    let text = text.as_bytes();
+    let digits = after_front(b"+", text).unwrap_or(text);
+    let number = number_in(digits)?;
+    if 1 <= number && number <= u64::from(most) {
+        Some(number as u32)
+    } else {
+        None
     }
 }
 
-/// The values of the options of `lc count` and `lc diff` that take numbers.
-#[derive(Clone, Copy)]
-pub(crate) struct Numbers {
-    pub(crate) threads: u32,
-    pub(crate) max_dirs: u32,
-    pub(crate) cuts: Cuts,
-}
-
-impl Numbers {
-    /// Reads the numbers from clap's values.
-    pub(crate) fn read(matches: &ArgMatches<'_>) -> Numbers
-        ensures { AreReadWithin (found_of matches.now) → AreNumbersIn (rows_of (found_of matches.now)) result }
-    {
-        Numbers {
-            // Both have a default, so clap has a value for both.
-            threads: matches.get_one::<u32>("threads").unwrap_or(4),
-            max_dirs: matches.get_one::<u32>("max-dirs").unwrap_or(65_536),
-            cuts: Cuts::read(matches),
-        }
+/// Reads the number of an option from clap's values, if the option is used.
+pub(crate) fn number_of(
+    alloc: Global,
+    matches: &ArgMatches<'_>,
+    option: &str,
+    most: u32,
+) -> Result<Option<u32>, ParseExit>
+    ensures { AnswersNumber most (first_of option.now (rows_of (found_of matches.now))) result }
+{
+    let Some(text) = matches.get_str(option) else {
+        return Ok(None);
+    };
+    match number_to(most, text) {
+        None => Err(no_number(alloc, option, text, most)),
+        number => Ok(number),
     }
 }

@@ -131,8 +131,10 @@ pub enum Kind {
     Text,
     /// An option whose value is a text. The option may be repeated.
     Texts,
-    /// An option whose value is a number from 1 to this maximum.
+    /// An option whose value is a number from 1 to this maximum. To clap it is a text.
     Number(u32),
+    /// An option whose value is a number from 1 to this maximum, which clap tests.
+    Range(u32),
     /// A required positional argument, such as `FILE`.
     Word,
     /// Any number of positional arguments, such as `DIR`. If none is typed and the row has a `default`, the default is used.

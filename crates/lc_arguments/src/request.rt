@@ -11,7 +11,7 @@ ghost use Rattle.lc_arguments.specs.Words.{AnswersWords, count_words};
 use crate::check::CheckRequest;
 use crate::count::CountRequest;
 use crate::diff::DiffRequest;
-use crate::error_text::{advised, number_refused, problem_of, value_refused};
+use crate::error_text::{advised, number_refused, problem_of, range_refused, value_refused};
 use crate::explain::ExplainRequest;
 use crate::first_word::count_words;
 use crate::naming::{is_naming_error, is_text_of, with_words};
@@ -95,7 +95,7 @@ fn text_of(
         | ErrorKind::InvalidValue
         | ErrorKind::InvalidSubcommand
         | ErrorKind::UnknownArgument => advised(alloc, problem_of(&text), usage, advice),
-        ErrorKind::ValueValidation => number_refused(alloc, &text),
+        ErrorKind::ValueValidation => range_refused(alloc, &text),
         _ => Ok(text),
     }
 }
@@ -122,6 +122,16 @@ pub(crate) fn refused(alloc: Global, option: &str, value: &str, why: &str) -> Pa
     ensures { IsRefusal result }
 {
     match value_refused(alloc, option, value, why) {
+        Ok(text) => ParseExit::Refused(text),
+        Err(AllocError) => ParseExit::Memory,
+    }
+}
+
+/// Makes the refusal of a value of an option whose values are the numbers from 1 to `most`.
+pub(crate) fn no_number(alloc: Global, option: &str, value: &str, most: u32) -> ParseExit
+    ensures { IsRefusal result }
+{
+    match number_refused(alloc, option, value, most) {
         Ok(text) => ParseExit::Refused(text),
         Err(AllocError) => ParseExit::Memory,
     }

@@ -10,7 +10,6 @@ use crate::attributes::attributes_in;
 use crate::changes::one_sided;
 use crate::combinations::sum_misfit;
 use crate::conditions::conditions_in;
-use crate::numbers::Cuts;
 use crate::option_row::Subcommand;
 use crate::reports::{NamedReport, reports_in};
 use crate::request::{ParseExit, unfit};
@@ -45,8 +44,7 @@ pub struct SumRequest<'w> {
 fn request_in<'w>(alloc: Global, matches: &ArgMatches<'w>) -> Result<SumRequest<'w>, ParseExit>
     ensures { AnswersIn Sum IsSumOf AsksNoSum (found_of matches.now) result }
 {
-    let cuts = Cuts::read(matches);
-    let table = table_in(alloc, matches, cuts)?;
+    let table = table_in(alloc, matches)?;
     one_sided(alloc, matches)?;
     let attributes = attributes_in(alloc, matches)?;
     let conditions = conditions_in(alloc, matches, &attributes)?;

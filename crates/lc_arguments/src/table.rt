@@ -17,7 +17,8 @@ ghost use Rattle.lc_arguments.specs.TableWords.{columns_in, lists_files, names_t
 ghost use Rattle.lc_arguments.specs.TableWords.{output_word};
 
 use crate::attributes::{is_named, names_column};
-use crate::numbers::Cuts;
+use crate::limits::{MAX_DEPTH, MAX_TOP};
+use crate::numbers::number_of;
 use crate::request::{ParseExit, refused, unfit};
 use clap::ArgMatches;
 use lc_glob::cut_at_first;
@@ -316,19 +317,23 @@ fn table_of(
 }
 
 /// Reads the options of the table from clap's values.
-pub(crate) fn table_in(
-    alloc: Global,
-    matches: &ArgMatches<'_>,
-    cuts: Cuts,
-) -> Result<TableRequest, ParseExit>
-    ensures { AnswersTableIn (rows_of (found_of matches.now)) cuts result }
+pub(crate) fn table_in(alloc: Global, matches: &ArgMatches<'_>) -> Result<TableRequest, ParseExit>
+    ensures { AnswersTableIn (rows_of (found_of matches.now)) result }
 {
+    let depth = match number_of(alloc, matches, "depth", MAX_DEPTH) {
+        Ok(depth) => depth,
+        Err(no) => return Err(no),
+    };
+    let top = match number_of(alloc, matches, "top", MAX_TOP) {
+        Ok(top) => top,
+        Err(no) => return Err(no),
+    };
     let format = matches.get_str("format");
     let by = matches.get_str("by");
     let sort = matches.get_str("sort");
-    match table_of(alloc, format, by, cuts.depth, sort) {
+    match table_of(alloc, format, by, depth, sort) {
         Ok(table) => Ok(TableRequest {
-            top: cuts.top,
+            top,
             files: matches.get_flag("files"),
             share: matches.get_flag("share"),
             ..table

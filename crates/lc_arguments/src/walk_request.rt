@@ -1,11 +1,9 @@
 //! The options that say how to count directories.
 
 ghost use Rattle.clap.specs.Matches.{found_of};
-ghost use Rattle.clap.specs.Walk.{rows_of};
 ghost use Rattle.lc_arguments.specs.Explained.{AnswersWalkIn};
 
 use crate::filter_request::FilterRequest;
-use crate::numbers::Numbers;
 use crate::paths::paths_in;
 use crate::request::ParseExit;
 use clap::ArgMatches;
@@ -32,19 +30,19 @@ pub struct WalkRequest<'w> {
 }
 
 impl<'w> WalkRequest<'w> {
-    /// Reads the options from clap's values, apart from those in `numbers`, which were read before.
+    /// Reads the options from clap's values.
     pub(crate) fn read(
         alloc: Global,
         matches: &ArgMatches<'w>,
-        numbers: Numbers,
     ) -> Result<WalkRequest<'w>, ParseExit>
-        ensures { AnswersWalkIn (rows_of (found_of matches.now)) numbers result }
+        ensures { AnswersWalkIn (found_of matches.now) result }
     {
         let filters = FilterRequest::read(alloc, matches)?;
         let only = paths_in(alloc, matches)?;
         Ok(WalkRequest {
-            threads: numbers.threads,
-            max_dirs: numbers.max_dirs,
+            // Both have a default, so clap has a value for both.
+            threads: matches.get_one::<u32>("threads").unwrap_or(4),
+            max_dirs: matches.get_one::<u32>("max-dirs").unwrap_or(65_536),
             filters,
             only,
             only_from: matches.get_str("only-from"),

@@ -16,7 +16,7 @@ fn push_kind(line: &mut String, kind: Kind) -> Result<(), AllocError> {
         Kind::Flag => line.push_str("flag"),
         Kind::Text => line.push_str("text"),
         Kind::Texts => line.push_str("texts"),
-        Kind::Number(most) => write!(line, "number 1 to {most}"),
+        Kind::Number(most) | Kind::Range(most) => write!(line, "number 1 to {most}"),
         Kind::Word => line.push_str("word"),
         Kind::Words => line.push_str("words"),
     }

@@ -1,51 +1,48 @@
 use Rattle.std.proofs.Common.{codes, inl, inr, refl}
 use Rattle.clap.specs.{Matches.found_of, Walk.rows_of}
 use Rattle.lc_arguments.proofs.{WordFaults.flag_of, Misnaming.passed_on}
-use Rattle.lc_arguments.specs.{CommandLine.rules_in, Options.options, declared.option_row.Subcommand.TheVariants.Count}
-use Rattle.lc_arguments.proofs.CommandRules.{numbers_within}
+use Rattle.lc_arguments.specs.Options.{max_dirs, max_threads}
 use Rattle.lc_arguments.proofs.count.request_in.Goals as goal
 
 pub returns-in_err-walk : goal.returns-in_err-walk
 returns-in_err-walk c =
-    passed_on _ _ _ c.from_residual.result c.in_err-walk.field-0.0 (λ bad are. inl bad)
+    passed_on _ _ _ c.from_residual.result c.in_err-walk.field-0.0 (λ bad. inl bad)
     c.from_residual.ensures.1 c.in_err-walk.ensures
 
 pub returns-in_err-directories : goal.returns-in_err-directories
 returns-in_err-directories c =
-    passed_on _ _ _ c.from_residual-in_err-directories.result c.in_err-directories.field-0.0 (λ bad are. inr (inl bad))
+    passed_on _ _ _ c.from_residual-in_err-directories.result c.in_err-directories.field-0.0 (λ bad. inr (inl bad))
     c.from_residual-in_err-directories.ensures.1 c.in_err-directories.ensures
 
 pub returns-in_err-table : goal.returns-in_err-table
 returns-in_err-table c =
     passed_on _ _ _ c.from_residual-in_err-table.result c.in_err-table.field-0.0
-    (λ bad are. inr (inr (inl (bad (c.read-numbers.ensures
-    (numbers_within (rules_in Count options) (found_of c.args.matches.now) are refl refl refl refl)).cuts))))
+    (λ bad. inr (inr (inl bad)))
     c.from_residual-in_err-table.ensures.1 c.in_err-table.ensures
 
 pub returns-in_err-one_sided : goal.returns-in_err-one_sided
 returns-in_err-one_sided c =
     passed_on _ _ _ c.from_residual-in_err-one_sided.result c.in_err-one_sided.field-0.0
-    (λ two are. inr (inr (inr (inl two)))) c.from_residual-in_err-one_sided.ensures.1 c.in_err-one_sided.ensures
+    (λ two. inr (inr (inr (inl two)))) c.from_residual-in_err-one_sided.ensures.1 c.in_err-one_sided.ensures
 
 pub returns-in_err-attributes : goal.returns-in_err-attributes
 returns-in_err-attributes c =
-    passed_on _ _ _ c.from_residual-in_err-attributes.result c.in_err-attributes.field-0.0 (λ bad are. inl (inl bad))
+    passed_on _ _ _ c.from_residual-in_err-attributes.result c.in_err-attributes.field-0.0 (λ bad. inl (inl bad))
     c.from_residual-in_err-attributes.ensures.1 c.in_err-attributes.ensures
 
 pub returns-in_err-conditions : goal.returns-in_err-conditions
 returns-in_err-conditions c =
-    passed_on _ _ _ c.from_residual-in_err-conditions.result c.in_err-conditions.field-0.0 (λ bad are. inl (inl bad))
+    passed_on _ _ _ c.from_residual-in_err-conditions.result c.in_err-conditions.field-0.0 (λ bad. inl (inl bad))
     c.from_residual-in_err-conditions.ensures.1 c.in_err-conditions.ensures
 
 pub returns : goal.returns
 returns c = λ are.
-    let numbers = c.read-numbers.ensures (numbers_within (rules_in Count options) (found_of c.args.matches.now) are refl refl refl refl) in
     let f = found_of c.args.matches.now in
     let rows = rows_of f in
     record {
-      walk = c.in_ok-walk.ensures numbers;
+      walk = c.in_ok-walk.ensures (record { threads = are (codes "threads") max_threads refl; max_dirs = are (codes "max-dirs") max_dirs refl });
       left_out = flag_of rows f (codes "left-out") c.get_flag.result refl c.get_flag.ensures.value c.get_flag.ensures.other;
-      table = c.in_ok-table.ensures numbers.cuts;
+      table = c.in_ok-table.ensures;
       attributes = c.in_ok-attributes.ensures;
       one_sided = c.in_ok-one_sided.ensures;
       conditions = rw c.deref.ensures.value at c.in_ok-conditions.ensures;

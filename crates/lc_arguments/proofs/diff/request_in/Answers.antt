@@ -1,49 +1,50 @@
 use Rattle.std.proofs.Common.{codes, inl, inr, refl}
 use Rattle.clap.specs.{Matches.found_of, Walk.rows_of}
 use Rattle.lc_arguments.proofs.{WordFaults.{flag_of, text_or}, Misnaming.passed_on}
-use Rattle.lc_arguments.specs.{CommandLine.rules_in, Options.options, declared.option_row.Subcommand.TheVariants.Diff}
-use Rattle.lc_arguments.proofs.CommandRules.{numbers_within}
+use Rattle.lc_arguments.specs.Options.{max_dirs, max_threads}
 use Rattle.lc_arguments.proofs.diff.request_in.Goals as goal
 
 pub returns-in_err-walk : goal.returns-in_err-walk
 returns-in_err-walk c =
-    passed_on _ _ _ c.from_residual.result c.in_err-walk.field-0.0 (λ bad are. inl bad)
+    passed_on _ _ _ c.from_residual.result c.in_err-walk.field-0.0 (λ bad. inl bad)
     c.from_residual.ensures.1 c.in_err-walk.ensures
 
 pub returns-in_err-table : goal.returns-in_err-table
 returns-in_err-table c =
     passed_on _ _ _ c.from_residual-in_err-table.result c.in_err-table.field-0.0
-    (λ bad are. inr (inl (bad (c.read-numbers.ensures
-    (numbers_within (rules_in Diff options) (found_of c.args.matches.now) are refl refl refl refl)).cuts)))
+    (λ bad. inr (inl bad))
     c.from_residual-in_err-table.ensures.1 c.in_err-table.ensures
 
 pub returns-in_err-attributes : goal.returns-in_err-attributes
 returns-in_err-attributes c =
-    passed_on _ _ _ c.from_residual-in_err-attributes.result c.in_err-attributes.field-0.0 (λ bad are. inl (inl bad))
+    passed_on _ _ _ c.from_residual-in_err-attributes.result c.in_err-attributes.field-0.0 (λ bad. inl (inl bad))
     c.from_residual-in_err-attributes.ensures.1 c.in_err-attributes.ensures
 
 pub returns-in_err-conditions : goal.returns-in_err-conditions
 returns-in_err-conditions c =
-    passed_on _ _ _ c.from_residual-in_err-conditions.result c.in_err-conditions.field-0.0 (λ bad are. inl (inl bad))
+    passed_on _ _ _ c.from_residual-in_err-conditions.result c.in_err-conditions.field-0.0 (λ bad. inl (inl bad))
     c.from_residual-in_err-conditions.ensures.1 c.in_err-conditions.ensures
 
 pub returns : goal.returns
 returns c = λ are.
-    let numbers = c.read-numbers.ensures (numbers_within (rules_in Diff options) (found_of c.args.matches.now) are refl refl refl refl) in
     let f = found_of c.args.matches.now in
     let rows = rows_of f in
-    let table = (c.in_ok-table.ensures numbers.cuts).plain in
+    let table = c.in_ok-table.ensures.plain in
     record {
-      walk = c.in_ok-walk.ensures numbers;
+      walk = c.in_ok-walk.ensures (record { threads = are (codes "threads") max_threads refl; max_dirs = are (codes "max-dirs") max_dirs refl });
       table = record {
         within = table.within;
         named = record {
-          format_is = table.named.format_is;
-          by_is = table.named.by_is;
-          levels_is = table.named.levels_is;
-          sort_is = table.named.sort_is;
+          depth = table.named.depth;
+          depth_is = table.named.depth_is;
+          at = record {
+            format_is = table.named.at.format_is;
+            by_is = table.named.at.by_is;
+            levels_is = table.named.at.levels_is;
+            sort_is = table.named.at.sort_is;
+          };
+          top = table.named.top;
         };
-        top = table.top;
         files = table.files;
       };
       no_share = refl;
