@@ -1,5 +1,5 @@
 -- The files in the sheet of a report.
-use Rattle.std.proofs.Common.{arith, ◌≡◌, ℕ, Bool, if◌then◌else◌, List, [], ◌∷◌, map, Option, Some, None, refl, sym, ap, ap₂, ◌∙◌, codes}
+use Rattle.std.proofs.Common.{arith, ◌≡◌, ℕ, Bool, true, false, if◌then◌else◌, List, [], ◌∷◌, map, Option, Some, None, refl, sym, ap, ap₂, ◌∙◌, codes}
 use Rattle.std.proofs.lemmas.Grind.{common_steps}
 use Rattle.lc_sheet.specs.{Sheets.{SectionModel, SheetModel, line_of, lines_of, sheet_format}, declared.form.Form.Form}
 use Rattle.lc_sheet.specs.declared.table_options.Format.{Format, TheVariants.{Tsv, Table, Json, Csv, Markdown}}
@@ -25,7 +25,11 @@ paths_listed : (attributes : List (List ℕ)) (listed : Bool) (format : Format) 
     (first_of top (listed_files listed fs))))) else None)
     ≡ Some section
     → map (path_at section.columns) section.lines ≡ map (λ (f : FileLineModel). f.path) (first_of top fs)
-paths_listed attributes listed format form top fs section is = grind (arith, common_steps, paths_of_lines)
+paths_listed attributes true format form top fs section is =
+    let same : list_of (codes "file") (with_attributes attributes (section_of (file_value form) (file_columns format form.by) (first_of top fs)))
+    ≡ section = cc in
+    ap (λ (s : SectionModel). map (path_at s.columns) s.lines) (sym same) ∙ paths_of_lines format form (first_of top fs)
+paths_listed attributes false format form top fs section is = absurd (cc)
 
 pub sheet_files_law : SheetFilesLaw
 sheet_files_law options attributes r s section sheet there =
