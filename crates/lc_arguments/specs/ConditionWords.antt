@@ -1,5 +1,5 @@
 -- The conditions that words ask for: a column, an operator and values, as in `eol=crlf,mixed` and `lines > 1000`.
-use Rattle.std.specs.Prelude.{ℕ, ◌==◌, ◌&&◌, ◌||◌, ◌+◌, ◌*◌, ◌-◌, Bool, true, false, not, nat_le, cond, List, [], ◌∷◌, ◌++◌}
+use Rattle.std.specs.Prelude.{ℕ, ◌==◌, ◌&&◌, ◌||◌, ◌+◌, ◌*◌, ◌-◌, Bool, true, false, not, nat_le, cond, List, [], ◌∷◌, ◌++◌, length, is_some}
 use Rattle.std.specs.{Prelude.{codes, Option, Some, None}, List.{filter_map, list_all, list_any}, Str.bytes_eq}
 use Rattle.lc_glob.specs.{Bytes.slash, Pieces.{is_byte, pieces_of}}
 use Rattle.lc_rules.specs.Bytes.{equals_sign, space}
@@ -7,7 +7,7 @@ use Rattle.lc_sheet.specs.{ColumnWords.column_word, Conditions.{ConditionModel, 
 use Rattle.lc_sheet.specs.{Values.word, declared.change_kinds.ChangeKinds.ChangeKinds}
 use Rattle.lc_sheet.specs.declared.column.{Column.{Column, TheVariants.{Change, Key, Number}}, Number.TheVariants.{Lines, Blank, Bytes}}
 use Rattle.lc_sheet.specs.declared.key.Key.TheVariants.{Attribute, Ext, Text, Eol}
-use Rattle.lc_arguments.specs.{AttributeWords.{after_name, column_tested, place_of}}
+use Rattle.lc_arguments.specs.{AttributeWords.{after_name, attributes_asked, column_tested, place_of}}
 use Rattle.lc_arguments.specs.Texts.{after_front, exclamation_mark, greater_sign, less_sign}
 use Rattle.lc_sheet.specs.declared.condition.Comparison.{Comparison, TheVariants.{Less, AtMost, Equal, Unequal, AtLeast, Greater}}
 
@@ -165,6 +165,21 @@ not_binary = record { column = Key Eol; test = none_of (codes "nul" ∷ []) }
 abbrev pub all_conditions : List (List ℕ) → List (List ℕ) → Bool → List ConditionModel
 all_conditions attributes texts asked = conditions_of attributes texts ++ cond asked (not_binary ∷ []) []
 
+-- a text writes a condition
+abbrev pub is_condition : List ℕ → Bool
+is_condition text = is_some (condition_of [] text)
+
+-- the greatest number of attributes that conditions may test
+abbrev pub max_tested : ℕ
+max_tested = 64
+
+abbrev pub test_few : List (List ℕ) → Bool
+test_few texts = nat_le (length (attributes_asked None texts)) max_tested
+
+-- each text writes a condition, and they test few attributes
+abbrev pub are_conditions : List (List ℕ) → Bool
+are_conditions texts = list_all is_condition texts && test_few texts
+
 -- ---- conditions on `change`
 
 abbrev pub is_at_change : Option (Column × List ℕ) → Bool
@@ -175,19 +190,25 @@ is_at_change (Some column) = is_change column.0
 abbrev pub compares_sides : List ℕ → Bool
 compares_sides text = is_at_change (column_at [] text)
 
-abbrev pub allows_by : List ℕ → Option ConditionModel → Bool
-allows_by kind None = true
-allows_by kind (Some c) = cond (is_change c.column) (meets c.test (word kind)) true
+-- these kinds of files without those that a condition does not allow
+abbrev pub kinds_without : ChangeKinds → ConditionModel → ChangeKinds
+kinds_without kinds c = record {
+  added = kinds.added && meets c.test (word (codes "added"));
+  changed = kinds.changed && meets c.test (word (codes "changed"));
+  removed = kinds.removed && meets c.test (word (codes "removed"));
+  same = kinds.same && meets c.test (word (codes "same"));
+}
 
--- the condition that a text writes allows files of which this word says what became of them; a condition on another column allows all
-abbrev pub allows : List ℕ → List ℕ → Bool
-allows kind text = allows_by kind (condition_of [] text)
+-- a condition on another column allows all
+abbrev pub kinds_left : ChangeKinds → Option ConditionModel → ChangeKinds
+kinds_left kinds None = kinds
+kinds_left kinds (Some c) = cond (is_change c.column) (kinds_without kinds c) kinds
+
+-- these kinds of files without those that some of the conditions that texts write do not allow
+abbrev pub kinds_allowed : ChangeKinds → List (List ℕ) → ChangeKinds
+kinds_allowed kinds [] = kinds
+kinds_allowed kinds (text ∷ texts) = kinds_allowed (kinds_left kinds (condition_of [] text)) texts
 
 -- the kinds of files that each of the conditions that texts write allows
 abbrev pub changes_of : List (List ℕ) → ChangeKinds
-changes_of texts = record {
-  added = list_all (allows (codes "added")) texts;
-  changed = list_all (allows (codes "changed")) texts;
-  removed = list_all (allows (codes "removed")) texts;
-  same = list_all (allows (codes "same")) texts;
-}
+changes_of texts = kinds_allowed (record { added = true; changed = true; removed = true; same = true }) texts

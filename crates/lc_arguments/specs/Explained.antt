@@ -1,24 +1,27 @@
 -- What an error of clap becomes.
-use Rattle.std.specs.{Prelude.{◌≡◌, ◌≢◌, ◌⊎◌, ℕ, Bool, true, false, List, [], map, codes, Result, Ok, Err, Option, option_map}, Global.Vec}
-use Rattle.std.specs.{List.list_any, Borrow.Bor}
+use Rattle.std.specs.{Prelude.{◌≡◌, ◌≢◌, ◌⊎◌, ◌++◌, ◌∷◌, ℕ, Bool, true, false, List, [], map, codes, Result, Ok, Err, Option, option_map}, Global.Vec}
+use Rattle.std.specs.{List.{list_all, list_any}, Borrow.Bor}
 use Rattle.clap.specs.{Faults.fault_of, Simple.{App, matches_of}, Values.kind_of, declared.error.Error.Error}
 use Rattle.clap.specs.{declared.{error.kind.ErrorKind.TheVariants.OutOfMemory, parser.matches.Found.Found}, Walk.{Row, rows_of}}
 use Rattle.lc_arguments.specs.CommandLine.{check_app, command_app, count_app, diff_app, explain_app, lc_app, rules_in, sum_app}
 use Rattle.lc_arguments.specs.Words.{IsText, IsNoRequestBy, IsCheckOf, IsExplainOf, MayRefuse, MayShow, AsksNoCount, AsksNoSum}
-use Rattle.lc_arguments.specs.Words.{AsksNoTable, AreAttributesOf, AreFiltersOf, IsFitCountOf, IsFitSumOf, AreConditionsOf, IsWholeTableIn}
-use Rattle.lc_arguments.specs.{ConditionWords.compares_sides, Words.Misvalue}
+use Rattle.lc_arguments.specs.Words.{AsksNoTable, AreAttributesOf, AreFiltersOf, ChoosesNone, IsFitCountOf, IsFitSumOf, AreConditionsOf, IsOneSided}
+use Rattle.lc_arguments.specs.Words.{IsWholeTableIn, Misstates, Misvalue, conditions_read}
+use Rattle.lc_arguments.specs.ConditionWords.{all_conditions, changes_of, condition_of, conditions_of, is_condition, kinds_left, test_few}
+use Rattle.lc_arguments.specs.{AttributeWords.attributes_asked, declared.conditions.Where.Where}
 use Rattle.lc_arguments.specs.Words.{directories_read, is_bad_part, part_of, reports_read, texts_read, values_read, AsksNoDiff}
 use Rattle.lc_arguments.specs.{Words.{AsksNoWalk, IsFitDiffOf, IsWalkOf}, ReadNumbers.{AreReadBy, AreReadWithin, IsNumberTo}}
 use Rattle.lc_arguments.specs.{Directories.{are_distinct, unslashed}, Repeated.are_allowed, Reports.{name_reports, named_of, report_model}}
 use Rattle.lc_arguments.specs.TableWords.{AreColumnsBy, IsTableBy, order_word, output_word}
-use Rattle.lc_arguments.specs.declared.{repeated.Repeated.{Repeated, TheVariants.Conditions}, table.TableRequest.TableRequest}
+use Rattle.lc_arguments.specs.declared.{repeated.Repeated.Repeated, table.TableRequest.TableRequest}
 use Rattle.lc_arguments.specs.declared.request.ParseExit.{ParseExit, TheVariants.{Shown, Refused, Memory}}
 use Rattle.lc_arguments.specs.declared.request.Request.{Request, TheVariants.CheckJoined}
 use Rattle.lc_arguments.specs.declared.{check.CheckRequest.CheckRequest, count.CountRequest.CountRequest}
 use Rattle.lc_arguments.specs.declared.{filter_request.FilterRequest.FilterRequest, explain.ExplainRequest.ExplainRequest}
 use Rattle.lc_arguments.specs.declared.{reports.NamedReport.NamedReport, sum.SumRequest.SumRequest, diff.DiffRequest.DiffRequest}
 use Rattle.lc_arguments.specs.{declared.{option_row.Subcommand.Subcommand, walk_request.WalkRequest.WalkRequest}, Options.options}
-use Rattle.lc_sheet.specs.{Conditions.ConditionModel, declared.table_options.{Columns.Columns, Order.Order, Output.Output}}
+use Rattle.lc_sheet.specs.{Conditions.ConditionModel, declared.change_kinds.ChangeKinds.ChangeKinds}
+use Rattle.lc_sheet.specs.{declared.table_options.{Columns.Columns, Order.Order, Output.Output}}
 
 -- what an error of clap becomes: a text of help or of the version is shown; any other error refuses the words, unless memory runs out
 abbrev pub Explains : Error → ParseExit → Type 0
@@ -81,23 +84,42 @@ AnswersDiffWords = AnswersCommand diff_app IsFitDiffOf AsksNoDiff
 abbrev pub AnswersFilters : List Row → Result FilterRequest ParseExit → Type 0
 AnswersFilters rows = AnswersOr (AreFiltersOf rows) (Misvalue rows)
 
--- the attributes that were read; or an option has values that it may not have
-abbrev pub AnswersAttributes : List Row → Result (Vec (Bor (List ℕ))) ParseExit → Type 0
-AnswersAttributes rows = AnswersOr (λ (attributes : Vec (Bor (List ℕ))). AreAttributesOf rows attributes.items) (Misvalue rows)
+-- the columns that are asked for, if conditions test few of them; or they test too many
+abbrev pub AnswersAttributes : Option (List ℕ) → List (List ℕ) → Result (Vec (Bor (List ℕ))) ParseExit → Type 0
+AnswersAttributes by texts =
+    AnswersOr (λ (attributes : Vec (Bor (List ℕ))).
+    (map (λ attribute. attribute.now) attributes.items ≡ attributes_asked by texts) × (test_few texts ≡ true))
+    (test_few texts ≡ false)
 
--- the conditions that were read; or an option has values that it may not have
-abbrev pub AnswersConditions : List Row → List (List ℕ) → Result (Vec ConditionModel) ParseExit → Type 0
-AnswersConditions rows attributes =
-    AnswersOr (λ (conditions : Vec ConditionModel). AreConditionsOf rows attributes conditions.items) (Misvalue rows)
+-- the condition that a text writes comes after those before, unless it is on `change`, and of these kinds those are left which it allows; or
+-- the text writes no condition
+abbrev pub AnswersOneCondition : List (List ℕ) → List ℕ → ChangeKinds → List ConditionModel → List ConditionModel
+    → Result ChangeKinds ParseExit → Type 0
+AnswersOneCondition attributes text kinds old new =
+    AnswersOr (λ (left : ChangeKinds). (new ≡ old ++ conditions_of attributes (text ∷ []))
+    × (left ≡ kinds_left kinds (condition_of [] text)) × (is_condition text ≡ true))
+    (is_condition text ≡ false)
 
--- no condition of these texts is on `change`, which compares two sides; or one is
-abbrev pub AnswersOneSided : List (List ℕ) → Result (Unit {0}) ParseExit → Type 0
-AnswersOneSided texts =
-    AnswersOr (λ (_ : Unit {0}). list_any compares_sides texts ≡ false) (list_any compares_sides texts ≡ true)
+-- the conditions that texts write and that of `--no-binary`, and the kinds of files that those on `change` allow; or a text writes none
+abbrev pub AnswersConditions : List (List ℕ) → List (List ℕ) → Bool → Result (Vec ConditionModel × ChangeKinds) ParseExit → Type 0
+AnswersConditions attributes texts no_binary =
+    AnswersOr (λ (found : Vec ConditionModel × ChangeKinds). (found.0.items ≡ all_conditions attributes texts no_binary)
+    × (found.1 ≡ changes_of texts) × (list_all is_condition texts ≡ true))
+    (list_all is_condition texts ≡ false)
 
--- of those that were read
-abbrev pub AnswersOneSidedIn : List Row → Result (Unit {0}) ParseExit → Type 0
-AnswersOneSidedIn rows result = AnswersOneSided (values_read rows Conditions) result
+-- these are the columns, the conditions and the kinds of files that `--by`, `--where` and `--no-binary` request
+pub record IsWhereOf (rows : List Row) (w : Where) : Type 0 where
+  pub attributes : AreAttributesOf rows w.attributes.items
+  pub conditions : AreConditionsOf rows (map (λ attribute. attribute.now) w.attributes.items) w.conditions.items
+  pub changes : w.changes ≡ changes_of (conditions_read rows)
+
+-- which files are shown, as it was read; or `--where` has no conditions
+abbrev pub AnswersWhere : List Row → Result Where ParseExit → Type 0
+AnswersWhere rows = AnswersOr (IsWhereOf rows) (Misstates rows)
+
+-- which files of one side are shown, as it was read; or `--where` has no conditions of one side
+abbrev pub AnswersOneSided : List Row → Result Where ParseExit → Type 0
+AnswersOneSided rows = AnswersOr (λ (w : Where). IsWhereOf rows w × IsOneSided rows) (ChoosesNone rows)
 
 -- the values of an option, in their order, or the option may not have them all
 abbrev pub AnswersRepeated : Repeated → List (List ℕ) → Result (Vec (Bor (List ℕ))) ParseExit → Type 0

@@ -1,11 +1,11 @@
--- The values of options that may be used several times: attributes, patterns, and conditions.
-use Rattle.std.specs.Prelude.{◌++◌, ◌&&◌, ℕ, Bool, true, not, nat_le, List, [], ◌∷◌, length, flat_map, is_some, None, codes}
+-- The values of options that may be used several times: attributes and patterns.
+use Rattle.std.specs.Prelude.{◌++◌, ◌&&◌, ℕ, Bool, true, not, nat_le, List, [], ◌∷◌, length, flat_map, codes}
 use Rattle.std.specs.List.{before_first}
 use Rattle.std.specs.List.{list_all, list_any}
 use Rattle.lc_glob.specs.Pieces.{is_byte}
 use Rattle.lc_rules.specs.{AttrLines.is_negated, AttrWords.is_name, Bytes.{equals_sign, line_feed}, Limits.max_rule_bytes}
-use Rattle.lc_arguments.specs.{AttributeWords.attributes_asked, ConditionWords.condition_of, declared.repeated.Repeated.Repeated}
-use Rattle.lc_arguments.specs.declared.repeated.Repeated.TheVariants.{Attributes, Excluded, Included, Conditions}
+use Rattle.lc_arguments.specs.declared.repeated.Repeated.{Repeated}
+use Rattle.lc_arguments.specs.declared.repeated.Repeated.TheVariants.{Attributes, Excluded, Included}
 
 -- `ATTR` or `ATTR=VALUE`: an attribute can have the name (gitattributes(5), DESCRIPTION)
 abbrev pub has_attribute_name : List ℕ → Bool
@@ -24,23 +24,16 @@ abbrev pub id_of : Repeated → List ℕ
 id_of Attributes = codes "without"
 id_of Excluded = codes "exclude"
 id_of Included = codes "include"
-id_of Conditions = codes "where"
 
 -- an option may have this value
 abbrev pub is_allowed : Repeated → List ℕ → Bool
 is_allowed Attributes word = has_attribute_name word
 is_allowed Excluded pattern = has_one_line pattern
 is_allowed Included pattern = has_one_line pattern && not (is_negated pattern)
-is_allowed Conditions text = is_some (condition_of [] text)
 
--- the greatest number of attributes that conditions may test
-abbrev pub max_tested : ℕ
-max_tested = 64
-
--- the values of an option are short enough: patterns must fit into one ignore file as its lines, and conditions test few attributes
+-- the values of an option are short enough: patterns must fit into one ignore file as its lines
 abbrev pub are_short : Repeated → List (List ℕ) → Bool
 are_short Attributes words = true
-are_short Conditions texts = nat_le (length (attributes_asked None texts)) max_tested
 are_short Excluded patterns = nat_le (length (lines_text patterns)) max_rule_bytes
 are_short Included patterns = nat_le (length (lines_text patterns)) max_rule_bytes
 

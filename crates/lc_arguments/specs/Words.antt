@@ -7,9 +7,9 @@ use Rattle.lc_glob.specs.{Bytes.{hyphen, slash}, Pieces.is_byte}
 use Rattle.lc_arguments.specs.CommandLine.{count_app, check_app, diff_app, explain_app, languages_app, lc_app, sum_app}
 use Rattle.lc_arguments.specs.{AttributeWords.attributes_asked, Combinations.{diff_fits, fit_together, sum_fits}}
 use Rattle.lc_arguments.specs.Options.{max_depth, max_dirs, max_threads, max_top}
-use Rattle.lc_arguments.specs.ConditionWords.{all_conditions, changes_of, compares_sides}
+use Rattle.lc_arguments.specs.ConditionWords.{all_conditions, are_conditions, changes_of, compares_sides}
 use Rattle.lc_arguments.specs.{Directories.{are_distinct, or_default, unslashed}, Repeated.{are_allowed, id_of}}
-use Rattle.lc_arguments.specs.declared.repeated.Repeated.{Repeated, TheVariants.{Attributes, Excluded, Included, Conditions}}
+use Rattle.lc_arguments.specs.declared.repeated.Repeated.{Repeated, TheVariants.{Attributes, Excluded, Included}}
 use Rattle.lc_arguments.specs.declared.{reports.NamedReport.NamedReport, diff.DiffRequest.DiffRequest, sum.SumRequest.SumRequest}
 use Rattle.lc_arguments.specs.declared.walk_request.WalkRequest.{WalkRequest}
 use Rattle.lc_arguments.specs.declared.request.ParseExit.{ParseExit, TheVariants.{Shown, Refused, Memory}}
@@ -69,7 +69,7 @@ abbrev pub AreValuesOf : List Row → Repeated → List (Bor (List ℕ)) → Typ
 AreValuesOf rows option values =
     (map (λ value. value.now) values ≡ values_read rows option) × (are_allowed option (values_read rows option) ≡ true)
 
--- some option has values that it may not have: no attribute's name, no line of an ignore file, or no condition
+-- some option has values that it may not have: no attribute's name, or no line of an ignore file
 abbrev pub Misvalue : List Row → Type 0
 Misvalue rows = (option : Repeated) × (are_allowed option (values_read rows option) ≡ false)
 
@@ -117,24 +117,36 @@ pub record AreFiltersOf (rows : List Row) (e : FilterRequest) : Type 0 where
   pub include : AreValuesOf rows Included e.include.items
   pub no_ignore : IsFlag (codes "no-ignore") rows e.no_ignore
 
+-- the values of `--where`, in their order
+abbrev pub conditions_read : List Row → List (List ℕ)
+conditions_read rows = texts_read (codes "where") rows
+
 -- these are the columns of attributes and of languages that `--by` and `--where` name
 abbrev pub AreAttributesOf : List Row → List (Bor (List ℕ)) → Type 0
 AreAttributesOf rows attributes =
-    map (λ attribute. attribute.now) attributes ≡ attributes_asked (first_of (codes "by") rows) (values_read rows Conditions)
+    map (λ attribute. attribute.now) attributes ≡ attributes_asked (first_of (codes "by") rows) (conditions_read rows)
 
 -- these are the conditions that `--where` and `--no-binary` request, if these columns are asked for
 pub record AreConditionsOf (rows : List Row) (attributes : List (List ℕ)) (cs : List ConditionModel) : Type 0 where
-  pub allowed : are_allowed Conditions (values_read rows Conditions) ≡ true
+  pub allowed : are_conditions (conditions_read rows) ≡ true
   pub no_binary : Bool
   pub flag : IsFlag (codes "no-binary") rows no_binary
-  pub are : cs ≡ all_conditions attributes (values_read rows Conditions) no_binary
+  pub are : cs ≡ all_conditions attributes (conditions_read rows) no_binary
 
--- a condition of `--where` is on `change`, which compares two sides; and none is
+-- a condition of `--where` is on `change`, which compares two sides; or none is
 abbrev pub ComparesSides : List Row → Type 0
-ComparesSides rows = list_any compares_sides (values_read rows Conditions) ≡ true
+ComparesSides rows = list_any compares_sides (conditions_read rows) ≡ true
 
 abbrev pub IsOneSided : List Row → Type 0
-IsOneSided rows = list_any compares_sides (values_read rows Conditions) ≡ false
+IsOneSided rows = list_any compares_sides (conditions_read rows) ≡ false
+
+-- a value of `--where` is no condition, or they test too many attributes
+abbrev pub Misstates : List Row → Type 0
+Misstates rows = are_conditions (conditions_read rows) ≡ false
+
+-- these options choose no files of one side
+abbrev pub ChoosesNone : List Row → Type 0
+ChoosesNone rows = ComparesSides rows ⊎ Misstates rows
 
 -- a table has the requested format, columns and order, and its directories are cut to this depth
 abbrev pub IsTableAt : List Row → Option ℕ → TableRequest → Type 0
@@ -197,10 +209,10 @@ IsFitCountOf rows c = IsCountOf rows c × (fit_together c ≡ true)
 abbrev pub Misfit : List Row → Type 0
 Misfit rows = (c : CountRequest) × IsCountOf rows c × (fit_together c ≡ false)
 
--- the arguments request no count: they request no walk, name a directory twice, request no table, compare two sides, or have options that
--- do not fit together
+-- the arguments request no count: they request no walk, name a directory twice, request no table, have no conditions of one side, or have
+-- options that do not fit together
 abbrev pub AsksNoCount : List Row → Type 0
-AsksNoCount rows = AsksNoWalk rows ⊎ (NamesOneTwice rows ⊎ (AsksNoTable rows ⊎ (ComparesSides rows ⊎ Misfit rows)))
+AsksNoCount rows = AsksNoWalk rows ⊎ (NamesOneTwice rows ⊎ (AsksNoTable rows ⊎ (ChoosesNone rows ⊎ Misfit rows)))
 
 -- the words that name reports, or `-`, standard input, alone if there are none
 abbrev pub reports_read : List Row → List (List ℕ)
@@ -233,10 +245,10 @@ IsFitSumOf rows s = IsSumOf rows s × (sum_fits s ≡ true)
 abbrev pub MisfitSum : List Row → Type 0
 MisfitSum rows = (s : SumRequest) × IsSumOf rows s × (sum_fits s ≡ false)
 
--- the arguments request no sum: they have a wrong value, name no report, request no table, compare two sides, or have options that do not
--- fit together
+-- the arguments request no sum: they name no report, request no table, have no conditions of one side, or have options that do not fit
+-- together
 abbrev pub AsksNoSum : List Row → Type 0
-AsksNoSum rows = Misvalue rows ⊎ (MisnamesReports rows ⊎ (AsksNoTable rows ⊎ (ComparesSides rows ⊎ MisfitSum rows)))
+AsksNoSum rows = MisnamesReports rows ⊎ (AsksNoTable rows ⊎ (ChoosesNone rows ⊎ MisfitSum rows))
 
 -- this is the difference that the arguments request; its options may not fit together
 pub record IsDiffOf (rows : List Row) (d : DiffRequest) : Type 0 where
@@ -245,7 +257,7 @@ pub record IsDiffOf (rows : List Row) (d : DiffRequest) : Type 0 where
   pub no_share : d.table.share ≡ false
   pub attributes : AreAttributesOf rows d.attributes.items
   pub conditions : AreConditionsOf rows (map (λ attribute. attribute.now) d.attributes.items) d.conditions.items
-  pub changes : d.changes ≡ changes_of (values_read rows Conditions)
+  pub changes : d.changes ≡ changes_of (conditions_read rows)
   pub fail_if_any : IsFlag (codes "fail-if-any") rows d.fail_if_any
   pub all : IsFlag (codes "all") rows d.all
   pub old : d.old.now ≡ unwrap_or (first_of (codes "OLD") rows) []
@@ -259,9 +271,9 @@ IsFitDiffOf rows d = IsDiffOf rows d × (diff_fits d ≡ true)
 abbrev pub MisfitDiff : List Row → Type 0
 MisfitDiff rows = (d : DiffRequest) × IsDiffOf rows d × (diff_fits d ≡ false)
 
--- the arguments request no difference: they request no walk, request no table, or have options that do not fit together
+-- the arguments request no difference: they request no walk, request no table, have no conditions, or have options that do not fit together
 abbrev pub AsksNoDiff : List Row → Type 0
-AsksNoDiff rows = AsksNoWalk rows ⊎ (AsksNoTable rows ⊎ MisfitDiff rows)
+AsksNoDiff rows = AsksNoWalk rows ⊎ (AsksNoTable rows ⊎ (Misstates rows ⊎ MisfitDiff rows))
 
 -- this is the check that the arguments request
 pub record IsCheckOf (rows : List Row) (c : CheckRequest) : Type 0 where

@@ -4,8 +4,6 @@ ghost use Rattle.std.specs.Prelude.{◌≡◌, ◌++◌, ◌≤◌, [], ◌∷�
 ghost use Rattle.std.specs.Bool.{MatchBool};
 ghost use Rattle.std.specs.List.{filter_map, position_or_len};
 ghost use Rattle.std.specs.Str.{bytes_eq};
-ghost use Rattle.clap.specs.Matches.{found_of};
-ghost use Rattle.clap.specs.Walk.{rows_of};
 ghost use Rattle.lc_glob.specs.Pieces.{pieces_left};
 ghost use Rattle.lc_arguments.specs.AttributeWords.{after_name, attribute_named, attributes_asked, attributes_by, column_named};
 ghost use Rattle.lc_arguments.specs.AttributeWords.{column_tested, how_often, names_column};
@@ -14,13 +12,14 @@ ghost use Rattle.lc_arguments.specs.Explained.{AnswersAttributes};
 ghost use Rattle.lc_arguments.specs.Texts.{comma};
 
 use crate::condition_text::after_front;
-use crate::repeated::{Repeated, values_in};
-use crate::request::ParseExit;
-use clap::ArgMatches;
+use crate::request::{ParseExit, refused};
 use lc_glob::cut_at_first;
 use lc_rules::is_attribute_name;
 use std::alloc::{AllocError, Global};
 use std::str::from_utf8;
+
+/// The greatest number of attributes that conditions may test.
+const MAX_TESTED: usize = 64;
 
 /// Returns this name if it is that of an attribute's column: `attr:NAME`, where an attribute can have the name NAME.
 fn attribute_named(name: &[u8]) -> Option<&str>
@@ -155,7 +154,7 @@ fn push_tested<'w>(attributes: &mut Vec<&'w str>, text: &'w str) -> Result<(), A
 }
 
 /// Returns the columns that are asked for: those of `--by`, and then the others that conditions test.
-pub(crate) fn attributes_asked<'w>(
+fn attributes_asked<'w>(
     alloc: Global,
     by: Option<&'w str>,
     texts: &[&'w str],
@@ -170,19 +169,22 @@ pub(crate) fn attributes_asked<'w>(
     Ok(attributes)
 }
 
-/// Reads from clap's values the columns of attributes and of languages that are asked for.
-pub(crate) fn attributes_in<'w>(
+/// Returns the columns that are asked for, if conditions test few of them.
+pub(crate) fn attributes_of<'w>(
     alloc: Global,
-    matches: &ArgMatches<'w>,
+    by: Option<&'w str>,
+    texts: &[&'w str],
 ) -> Result<Vec<&'w str>, ParseExit>
-    ensures { AnswersAttributes (rows_of (found_of matches.now)) result }
+    ensures { AnswersAttributes (option_map (λ s. s.now) by.entry) (map (λ text. text.now) texts.now) result }
 {
-    let by = matches.get_str("by");
-    let texts = match values_in(alloc, matches, Repeated::Conditions) {
-        Ok(texts) => texts,
-        Err(no) => return Err(no),
+    let Ok(tested) = attributes_asked(alloc, None, texts) else {
+        return Err(ParseExit::Memory);
     };
-    match attributes_asked(alloc, by, &texts) {
+    if tested.len() > MAX_TESTED {
+        let why = ": conditions test at most 64 attributes";
+        return Err(refused(alloc, "where", "...", why));
+    }
+    match attributes_asked(alloc, by, texts) {
         Ok(attributes) => Ok(attributes),
         Err(AllocError) => Err(ParseExit::Memory),
     }

@@ -1,57 +1,28 @@
 //! The conditions of `--where` on `change`, which says what became of a file from OLD to NEW. Only `lc diff` has them.
 
 ghost use Rattle.std.specs.Prelude.{◌≡◌, is_some, map};
-ghost use Rattle.std.specs.List.{list_all, list_any};
+ghost use Rattle.std.specs.List.{list_any};
 ghost use Rattle.clap.specs.Matches.{found_of};
 ghost use Rattle.clap.specs.Walk.{rows_of};
-ghost use Rattle.lc_arguments.specs.ConditionWords.{allows, changes_of, compares_sides};
-ghost use Rattle.lc_arguments.specs.Explained.{AnswersOneSidedIn};
-ghost use Rattle.lc_arguments.specs.Words.{values_read};
-ghost use Rattle.lc_arguments.specs.declared.repeated.Repeated.TheVariants.{Conditions};
+ghost use Rattle.lc_arguments.specs.ConditionWords.{compares_sides, kinds_without};
+ghost use Rattle.lc_arguments.specs.Explained.{AnswersOneSided};
 
-use crate::condition_text::{compares_sides, condition_of};
+use crate::condition_text::compares_sides;
+use crate::conditions::Where;
 use crate::request::{ParseExit, refused};
 use clap::ArgMatches;
-use lc_sheet::{ChangeKinds, Column, Value};
+use lc_sheet::{ChangeKinds, Condition, Value};
 use std::alloc::Global;
 
-/// Returns whether the condition of a text allows files of this kind, such as `added`. A condition on another column allows all files.
-fn allows(text: &[u8], kind: &'static str) -> bool
-    ensures { result ≡ allows kind.now text.now }
+/// Returns these kinds of files without those that a condition on `change` does not allow.
+pub(crate) fn kinds_without(kinds: ChangeKinds, condition: &Condition<'_>) -> ChangeKinds
+    ensures { result ≡ kinds_without kinds condition.now }
 {
-    let Some(condition) = condition_of(&[], text) else {
-        return true;
-    };
-    if !matches!(condition.column, Column::Change) {
-        return true;
-    }
-    condition.holds(Value::Word(kind))
-}
-
-/// Returns whether the condition of each text allows files of this kind.
-fn all_allow(texts: &[&str], kind: &'static str) -> bool
-    ensures { result ≡ list_all (allows kind.now) (map (λ text. text.now) texts.now) }
-{
-    let mut left = texts;
-    'texts: while let [text, others @ ..] = left {
-        if !allows(text.as_bytes(), kind) {
-            return false;
-        }
-        left = others;
-    }
-    true
-}
-
-/// Reads from clap's values the kinds of files that all conditions on `change` allow.
-pub(crate) fn changes_in(matches: &ArgMatches<'_>) -> ChangeKinds
-    ensures { result ≡ changes_of (values_read (rows_of (found_of matches.now)) Conditions) }
-{
-    let texts = matches.get_strs("where").unwrap_or(&[]);
     ChangeKinds {
-        added: all_allow(texts, "added"),
-        changed: all_allow(texts, "changed"),
-        removed: all_allow(texts, "removed"),
-        same: all_allow(texts, "same"),
+        added: kinds.added && condition.holds(Value::Word("added")),
+        changed: kinds.changed && condition.holds(Value::Word("changed")),
+        removed: kinds.removed && condition.holds(Value::Word("removed")),
+        same: kinds.same && condition.holds(Value::Word("same")),
     }
 }
 
@@ -69,12 +40,12 @@ fn first_compared<'w>(texts: &[&'w str]) -> Option<&'w str>
     None
 }
 
-/// Refuses a condition on `change` among clap's values.
-pub(crate) fn one_sided(alloc: Global, matches: &ArgMatches<'_>) -> Result<(), ParseExit>
-    ensures { AnswersOneSidedIn (rows_of (found_of matches.now)) result }
+/// Reads from clap's values which files one side shows. Refuses a condition on `change`.
+pub(crate) fn one_sided<'w>(alloc: Global, matches: &ArgMatches<'w>) -> Result<Where<'w>, ParseExit>
+    ensures { AnswersOneSided (rows_of (found_of matches.now)) result }
 {
     match first_compared(matches.get_strs("where").unwrap_or(&[])) {
-        None => Ok(()),
+        None => Where::read(alloc, matches),
         Some(text) => Err(refused(
             alloc,
             "where",

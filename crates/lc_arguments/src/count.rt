@@ -6,10 +6,8 @@ ghost use Rattle.lc_arguments.specs.Explained.{AnswersCountWords, AnswersIn};
 ghost use Rattle.lc_arguments.specs.Words.{AsksNoCount, IsCountOf};
 ghost use Rattle.lc_arguments.specs.declared.option_row.Subcommand.TheVariants.{Count};
 
-use crate::attributes::attributes_in;
 use crate::changes::one_sided;
 use crate::combinations::misfit;
-use crate::conditions::conditions_in;
 use crate::directories::directories_in;
 use crate::option_row::Subcommand;
 use crate::request::{ParseExit, unfit};
@@ -48,15 +46,13 @@ fn request_in<'w>(alloc: Global, matches: &ArgMatches<'w>) -> Result<CountReques
     let walk = WalkRequest::read(alloc, matches)?;
     let directories = directories_in(alloc, matches)?;
     let table = table_in(alloc, matches)?;
-    one_sided(alloc, matches)?;
-    let attributes = attributes_in(alloc, matches)?;
-    let conditions = conditions_in(alloc, matches, &attributes)?;
+    let chosen = one_sided(alloc, matches)?;
     Ok(CountRequest {
         walk,
         left_out: matches.get_flag("left-out"),
         table,
-        attributes,
-        conditions,
+        attributes: chosen.attributes,
+        conditions: chosen.conditions,
         fail_if_any: matches.get_flag("fail-if-any"),
         directories,
     })

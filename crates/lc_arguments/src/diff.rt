@@ -6,10 +6,8 @@ ghost use Rattle.lc_arguments.specs.Explained.{AnswersDiffWords, AnswersIn};
 ghost use Rattle.lc_arguments.specs.Words.{AsksNoDiff, IsDiffOf};
 ghost use Rattle.lc_arguments.specs.declared.option_row.Subcommand.TheVariants.{Diff};
 
-use crate::attributes::attributes_in;
-use crate::changes::changes_in;
 use crate::combinations::diff_misfit;
-use crate::conditions::conditions_in;
+use crate::conditions::Where;
 use crate::option_row::Subcommand;
 use crate::request::{ParseExit, unfit};
 use crate::table::{TableRequest, table_in};
@@ -49,17 +47,16 @@ fn request_in<'w>(alloc: Global, matches: &ArgMatches<'w>) -> Result<DiffRequest
 {
     let walk = WalkRequest::read(alloc, matches)?;
     let table = table_in(alloc, matches)?;
-    let attributes = attributes_in(alloc, matches)?;
-    let conditions = conditions_in(alloc, matches, &attributes)?;
+    let chosen = Where::read(alloc, matches)?;
     Ok(DiffRequest {
         walk,
         table: TableRequest {
             share: false,
             ..table
         },
-        attributes,
-        conditions,
-        changes: changes_in(matches),
+        attributes: chosen.attributes,
+        conditions: chosen.conditions,
+        changes: chosen.changes,
         fail_if_any: matches.get_flag("fail-if-any"),
         all: matches.get_flag("all"),
         old: matches.get_str("OLD").unwrap_or(""),

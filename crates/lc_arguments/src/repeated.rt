@@ -1,5 +1,4 @@
-//! The values of options that may be used several times: attributes of `--without`, patterns of `--exclude` and `--include`, conditions of
-//! `--where`.
+//! The values of options that may be used several times: attributes of `--without`, patterns of `--exclude` and `--include`.
 
 ghost use Rattle.std.specs.Prelude.{◌≡◌, map, not, is_some, IfOk};
 ghost use Rattle.std.specs.List.{list_all};
@@ -8,16 +7,11 @@ ghost use Rattle.clap.specs.Walk.{rows_of};
 ghost use Rattle.lc_arguments.specs.Repeated.{are_short, has_one_line, id_of, is_allowed, lines_text};
 ghost use Rattle.lc_arguments.specs.Explained.{AnswersRepeated, AnswersRepeatedIn, IsRefusal};
 
-use crate::attributes::attributes_asked;
-use crate::condition_text::{condition_of, why_no_condition};
 use crate::request::{ParseExit, refused};
 use clap::ArgMatches;
 use lc_glob::cut_at_first;
 use lc_rules::{MAX_RULE_BYTES, is_attribute_name};
 use std::alloc::{AllocError, Global};
-
-/// The greatest number of attributes that conditions may test.
-const MAX_TESTED: usize = 64;
 
 /// An option that may be used several times, and whose values must have a certain form.
 #[derive(Clone, Copy)]
@@ -28,8 +22,6 @@ pub(crate) enum Repeated {
     Excluded,
     /// `--include PATTERN`
     Included,
-    /// `--where CONDITION`
-    Conditions,
 }
 
 fn has_one_line(pattern: &str) -> bool
@@ -46,7 +38,6 @@ impl Repeated {
             Repeated::Attributes => "without",
             Repeated::Excluded => "exclude",
             Repeated::Included => "include",
-            Repeated::Conditions => "where",
         }
     }
 
@@ -60,7 +51,6 @@ impl Repeated {
             }
             Repeated::Excluded => has_one_line(value),
             Repeated::Included => { has_one_line(value) && !matches!(value.as_bytes(), [b'!', ..]) }
-            Repeated::Conditions => condition_of(&[], value.as_bytes()).is_some(),
         }
     }
 
@@ -78,8 +68,6 @@ impl Repeated {
             Repeated::Included => {
                 ": a pattern has no line feed and does not begin with '!', and all of them have at most 1048576 bytes"
             }
-            Repeated::Conditions if value == "..." => ": conditions test at most 64 attributes",
-            Repeated::Conditions => why_no_condition(value.as_bytes()),
         };
         refused(alloc, self.name(), value, why)
     }
@@ -97,17 +85,12 @@ pub fn lines_text(alloc: Global, lines: &[&str]) -> Result<Vec<u8>, AllocError>
     Ok(text)
 }
 
-/// Returns whether the values of an option are short enough. Patterns must fit into one ignore file, and conditions may test at most
-/// `MAX_TESTED` attributes.
+/// Returns whether the values of an option are short enough: patterns must fit into one ignore file.
 fn are_short(alloc: Global, option: Repeated, values: &[&str]) -> Result<bool, AllocError>
     ensures { IfOk result (λ short. short ≡ are_short option (map (λ value. value.now) values.now)) }
 {
     match option {
         Repeated::Attributes => Ok(true),
-        Repeated::Conditions => {
-            let attributes = attributes_asked(alloc, None, values)?;
-            Ok(attributes.len() <= MAX_TESTED)
-        }
         Repeated::Excluded | Repeated::Included => {
             let text = lines_text(alloc, values)?;
             Ok(text.len() <= MAX_RULE_BYTES)

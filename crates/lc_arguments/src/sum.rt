@@ -6,10 +6,8 @@ ghost use Rattle.lc_arguments.specs.Explained.{AnswersSumWords, AnswersIn};
 ghost use Rattle.lc_arguments.specs.Words.{AsksNoSum, IsSumOf};
 ghost use Rattle.lc_arguments.specs.declared.option_row.Subcommand.TheVariants.{Sum};
 
-use crate::attributes::attributes_in;
 use crate::changes::one_sided;
 use crate::combinations::sum_misfit;
-use crate::conditions::conditions_in;
 use crate::option_row::Subcommand;
 use crate::reports::{NamedReport, reports_in};
 use crate::request::{ParseExit, unfit};
@@ -45,16 +43,14 @@ fn request_in<'w>(alloc: Global, matches: &ArgMatches<'w>) -> Result<SumRequest<
     ensures { AnswersIn Sum IsSumOf AsksNoSum (found_of matches.now) result }
 {
     let table = table_in(alloc, matches)?;
-    one_sided(alloc, matches)?;
-    let attributes = attributes_in(alloc, matches)?;
-    let conditions = conditions_in(alloc, matches, &attributes)?;
+    let chosen = one_sided(alloc, matches)?;
     let reports = reports_in(alloc, matches)?;
     Ok(SumRequest {
         left_out: matches.get_flag("left-out"),
         null: matches.get_flag("null"),
         table,
-        attributes,
-        conditions,
+        attributes: chosen.attributes,
+        conditions: chosen.conditions,
         fail_if_any: matches.get_flag("fail-if-any"),
         reports,
     })

@@ -15,15 +15,10 @@ returns-in_err-table c =
     (λ bad. inr (inl bad))
     c.from_residual-in_err-table.ensures.1 c.in_err-table.ensures
 
-pub returns-in_err-attributes : goal.returns-in_err-attributes
-returns-in_err-attributes c =
-    passed_on _ _ _ c.from_residual-in_err-attributes.result c.in_err-attributes.field-0.0 (λ bad. inl (inl bad))
-    c.from_residual-in_err-attributes.ensures.1 c.in_err-attributes.ensures
-
-pub returns-in_err-conditions : goal.returns-in_err-conditions
-returns-in_err-conditions c =
-    passed_on _ _ _ c.from_residual-in_err-conditions.result c.in_err-conditions.field-0.0 (λ bad. inl (inl bad))
-    c.from_residual-in_err-conditions.ensures.1 c.in_err-conditions.ensures
+pub returns-in_err-chosen : goal.returns-in_err-chosen
+returns-in_err-chosen c =
+    passed_on _ _ _ c.from_residual-in_err-chosen.result c.in_err-chosen.field-0.0 (λ none. inr (inr (inl none)))
+    c.from_residual-in_err-chosen.ensures.1 c.in_err-chosen.ensures
 
 pub returns : goal.returns
 returns c = λ are.
@@ -48,9 +43,9 @@ returns c = λ are.
         files = table.files;
       };
       no_share = refl;
-      attributes = c.in_ok-attributes.ensures;
-      conditions = rw c.deref.ensures.value at c.in_ok-conditions.ensures;
-      changes = c.changes_in.ensures;
+      attributes = c.in_ok-chosen.ensures.attributes;
+      conditions = c.in_ok-chosen.ensures.conditions;
+      changes = c.in_ok-chosen.ensures.changes;
       fail_if_any = flag_of rows f (codes "fail-if-any") c.get_flag.result refl c.get_flag.ensures.value c.get_flag.ensures.other;
       all = flag_of rows f (codes "all") c.get_flag-2.result refl c.get_flag-2.ensures.value c.get_flag-2.ensures.other;
       old = text_or rows f (codes "OLD") c.get_str.result _ c.unwrap_or.result refl c.get_str.ensures refl c.unwrap_or.ensures;

@@ -6,27 +6,17 @@ use Rattle.lc_arguments.proofs.sum.request_in.Goals as goal
 pub returns-in_err-table : goal.returns-in_err-table
 returns-in_err-table c =
     passed_on _ _ _ c.from_residual.result c.in_err-table.field-0.0
-    (λ bad. inr (inr (inl bad)))
+    (λ bad. inr (inl bad))
     c.from_residual.ensures.1 c.in_err-table.ensures
 
-pub returns-in_err-one_sided : goal.returns-in_err-one_sided
-returns-in_err-one_sided c =
-    passed_on _ _ _ c.from_residual-in_err-one_sided.result c.in_err-one_sided.field-0.0
-    (λ two. inr (inr (inr (inl two)))) c.from_residual-in_err-one_sided.ensures.1 c.in_err-one_sided.ensures
-
-pub returns-in_err-attributes : goal.returns-in_err-attributes
-returns-in_err-attributes c =
-    passed_on _ _ _ c.from_residual-in_err-attributes.result c.in_err-attributes.field-0.0 (λ bad. inl bad)
-    c.from_residual-in_err-attributes.ensures.1 c.in_err-attributes.ensures
-
-pub returns-in_err-conditions : goal.returns-in_err-conditions
-returns-in_err-conditions c =
-    passed_on _ _ _ c.from_residual-in_err-conditions.result c.in_err-conditions.field-0.0 (λ bad. inl bad)
-    c.from_residual-in_err-conditions.ensures.1 c.in_err-conditions.ensures
+pub returns-in_err-chosen : goal.returns-in_err-chosen
+returns-in_err-chosen c =
+    passed_on _ _ _ c.from_residual-in_err-chosen.result c.in_err-chosen.field-0.0
+    (λ none. inr (inr (inl none))) c.from_residual-in_err-chosen.ensures.1 c.in_err-chosen.ensures
 
 pub returns-in_err-reports : goal.returns-in_err-reports
 returns-in_err-reports c =
-    passed_on _ _ _ c.from_residual-in_err-reports.result c.in_err-reports.field-0.0 (λ bad. inr (inl bad))
+    passed_on _ _ _ c.from_residual-in_err-reports.result c.in_err-reports.field-0.0 (λ bad. inl bad)
     c.from_residual-in_err-reports.ensures.1 c.in_err-reports.ensures
 
 pub returns : goal.returns
@@ -37,9 +27,9 @@ returns c = λ are.
       left_out = flag_of rows f (codes "left-out") c.get_flag.result refl c.get_flag.ensures.value c.get_flag.ensures.other;
       null = flag_of rows f (codes "null") c.get_flag-2.result refl c.get_flag-2.ensures.value c.get_flag-2.ensures.other;
       table = c.in_ok-table.ensures;
-      attributes = c.in_ok-attributes.ensures;
-      one_sided = c.in_ok-one_sided.ensures;
-      conditions = rw c.deref.ensures.value at c.in_ok-conditions.ensures;
+      attributes = c.in_ok-chosen.ensures.0.attributes;
+      one_sided = c.in_ok-chosen.ensures.1;
+      conditions = c.in_ok-chosen.ensures.0.conditions;
       fail_if_any = flag_of rows f (codes "fail-if-any") c.get_flag-3.result refl c.get_flag-3.ensures.value c.get_flag-3.ensures.other;
       reports = c.in_ok-reports.ensures;
     }

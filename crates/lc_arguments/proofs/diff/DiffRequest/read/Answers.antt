@@ -23,4 +23,4 @@ returns g c =
     unfit_in Diff (map g.W.AsStr.text c.args.words.now) (found_of c.in-Ok.matches) c.in-Ok.ensures IsDiffOf diff_fits
     c.in-Ok-request_in.request c.in-Ok-request_in.ensures AsksNoDiff c.unfit.result c.unfit.ensures
     (rw c.in-Some.is at c.diff_misfit.ensures)
-    (λ misfit. inr (inr misfit))
+    (λ misfit. inr (inr (inr misfit)))

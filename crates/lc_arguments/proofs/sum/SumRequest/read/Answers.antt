@@ -22,4 +22,4 @@ pub returns : goal.returns
 returns g c =
     unfit_in Sum (map g.W.AsStr.text c.args.words.now) (found_of c.in-Ok.matches) c.in-Ok.ensures IsSumOf
     sum_fits c.in-Ok-request_in.request c.in-Ok-request_in.ensures AsksNoSum c.unfit.result c.unfit.ensures
-    (rw c.in-Some.is at c.sum_misfit.ensures) (λ misfit. inr (inr (inr (inr misfit))))
+    (rw c.in-Some.is at c.sum_misfit.ensures) (λ misfit. inr (inr (inr misfit)))
