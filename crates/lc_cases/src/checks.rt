@@ -19,7 +19,7 @@ const BY_LINES: PathFormat = PathFormat {
     style: PathStyle::Escaped,
 };
 
-/// The room for what a call writes, in bytes. A text that grew while it is written would end with a write error if an allocation failed.
+/// The room for what a call writes, in bytes. With it the writer allocates nothing, so a failed allocation does not look like a failed write.
 const ROOM: usize = 4_096;
 
 /// Returns the format of paths that a word names: `nul` if a NUL byte ends each path, or `shown` if they are shown in a terminal.

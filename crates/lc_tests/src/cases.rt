@@ -1,8 +1,8 @@
 //! Cases as text: what a program reads that prints each case of its input with an answer.
 //!
 //! A case is a line such as `matches | *.o | a.o | a.c`: a kind, which says what is tested, and columns. In a column `\n`, `\r`, `\t`, `\0`
-//! and `\xNN` stand for one byte, as in Rust, and once in a column `\{3 ab}` stands for `ababab`. A backslash before any other byte is
-//! dropped. A line that is empty or begins with `#` or a space is no case.
+//! and `\xNN` mean one byte, as in Rust, and once in a column `\{3 ab}` means `ababab`. A backslash before any other byte is dropped. A
+//! line that is empty or begins with `#` or a space is no case.
 
 use std::alloc::{AllocError, Global};
 
@@ -53,7 +53,7 @@ fn push_unescaped(bytes: &mut Vec<u8>, part: &str) -> Pushed {
     Ok(())
 }
 
-/// Returns the bytes that a column stands for.
+/// Returns the bytes that a column means.
 pub fn bytes_of(alloc: Global, column: &str) -> Result<Vec<u8>, AllocError> {
     let (before, repeated) = column.split_once("\\{").unwrap_or((column, ""));
     let (repeated, after) = repeated.split_once('}').unwrap_or((repeated, ""));
