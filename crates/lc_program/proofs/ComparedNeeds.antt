@@ -4,7 +4,7 @@ use Rattle.lc_arguments.specs.declared.{diff.DiffRequest.DiffRequest, walk_reque
 use Rattle.lc_changes.specs.ChangeSheets.{needs_files}
 use Rattle.lc_io.specs.Reads.{Answer}
 use Rattle.lc_program.specs.{Differences.{change_options, compared_columns, compared_needs}, Sides.GivesSides, Systems.SystemMay}
-use Rattle.lc_program.specs.declared.cause.Cause.{Cause}
+use Rattle.lc_program.specs.declared.{cause.Cause.Cause, sides.Side.Side}
 use Rattle.lc_sheet.specs.{ChangeKinds.are_all_changes, Keys.are_of_files, declared.table_options.Format.Format}
 use Rattle.lc_reports.specs.declared.needs.Needs.{Needs}
 use Rattle.lc_walk.specs.declared.{options.Options.Options, report.Report.Report}
@@ -26,9 +26,9 @@ files_needed other d needs is asked =
 
 -- sides that were given by what a comparison needs
 pub sides_given : (may : SystemMay) {I : Type 0} (may_give : I → ℕ → Answer → I → Type 0) (w : WalkRequest) (o : Options)
-    (attributes names : List (List ℕ)) (needs needed : Needs) (old new : List ℕ) (input : I) (answer : Result (Report × Report) Cause)
-    (read : I) → attributes ≡ names → needs ≡ needed
-    → GivesSides may may_give w o attributes needs old new input answer read
-    → GivesSides may may_give w o names needed old new input answer read
-sides_given may may_give w o attributes names needs needed old new input answer read are is given =
-    subst₂ (λ as_named n. GivesSides may may_give w o as_named n old new input answer read) are is given
+    (sides : Side × Side) (attributes names : List (List ℕ)) (needs needed : Needs) (old new : List ℕ) (input : I)
+    (answer : Result (Report × Report) Cause) (read : I) → attributes ≡ names → needs ≡ needed
+    → GivesSides may may_give w o attributes needs sides old new input answer read
+    → GivesSides may may_give w o names needed sides old new input answer read
+sides_given may may_give w o sides attributes names needs needed old new input answer read are is given =
+    subst₂ (λ as_named n. GivesSides may may_give w o as_named n sides old new input answer read) are is given

@@ -15,7 +15,6 @@ mod ReportsRead
 mod RulesLoaded
 mod SlicesRead
 mod TextsLoaded
-mod Told
 mod Stopping
 mod ChangesPrinted
 mod ComparedNeeds

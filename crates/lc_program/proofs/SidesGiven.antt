@@ -1,13 +1,14 @@
 -- Sides of a comparison that have a report, or none.
 use Rattle.std.proofs.Common.{◌≡◌, ℕ, Bool, true, false, List, [], Result, Ok, Err, inl, inr, subst, sym, ◌∙◌}
-use Rattle.lc_arguments.specs.declared.walk_request.WalkRequest.{WalkRequest}
-use Rattle.std.specs.{Prelude.{◌⊎◌, Option, None}, Result.IsErrAnd}
+use Rattle.lc_arguments.specs.declared.{diff.DiffRequest.DiffRequest, walk_request.WalkRequest.WalkRequest}
+use Rattle.std.specs.{Prelude.{◌⊎◌, Option, Some, None}, Result.IsErrAnd}
 use Rattle.lc_io.specs.Reads.{Answer}
 use Rattle.lc_level.specs.FaultLines.{FaultLineModel}
+use Rattle.lc_program.specs.Choices.{AcceptsSides, AnswersRefusal, AreSides, refusal_of}
 use Rattle.lc_program.specs.{Faults.has_path, LanguageColumns.HasLanguages, Reasons.unexplained_line, ReportFiles.Refuses}
 use Rattle.lc_program.specs.{ReportLines.IsTold, Sides.CountsSide}
 use Rattle.lc_program.specs.{Sides.{GivesSide, GivesSides, ReadsSide}, Systems.SystemMay, WalkRequests.entered_by}
-use Rattle.lc_program.specs.declared.{cause.Cause.{Cause, TheVariants.Memory}, unread_reason.UnreadReason.UnreadReason}
+use Rattle.lc_program.specs.declared.{cause.Cause.{Cause, TheVariants.Memory}, sides.Side.Side, unread_reason.UnreadReason.UnreadReason}
 use Rattle.lc_reports.specs.declared.needs.Needs.{Needs}
 use Rattle.lc_tree.specs.declared.file_systems.FileSystems.{FileSystems}
 use Rattle.lc_walk.specs.{Walks.Walks, declared.{options.Options.Options, report.Report.Report}}
@@ -51,18 +52,34 @@ module _ (may : SystemMay) {I : Type 0} (may_give : I → ℕ → Answer → I �
 
 -- sides of which one has no report
 module _ (may : SystemMay) {I : Type 0} (may_give : I → ℕ → Answer → I → Type 0) (w : WalkRequest) (o : Options)
-    (attributes : List (List ℕ)) (needs : Needs) (old new : List ℕ) (input read : I) where
+    (attributes : List (List ℕ)) (needs : Needs) (sides : Side × Side) (old new : List ℕ) (input read : I) where
   pub old_missing : (answer : Result (Report × Report) Cause) (cause : Cause) → IsErrAnd answer (λ given. given ≡ cause)
-      → GivesSide may may_give w o attributes needs old input (Err cause) read
-      → GivesSides may may_give w o attributes needs old new input answer read
+      → GivesSide may may_give w o attributes needs sides.0 old input (Err cause) read
+      → GivesSides may may_give w o attributes needs sides old new input answer read
   old_missing (Ok both) cause is none = absurd is
   old_missing (Err given) cause is none =
-      subst (λ c. GivesSides may may_give w o attributes needs old new input (Err c) read) (sym is) (inl none)
+      subst (λ c. GivesSides may may_give w o attributes needs sides old new input (Err c) read) (sym is) (inl none)
 
   pub new_missing : (answer : Result (Report × Report) Cause) (cause : Cause) (r : Report) (between : I)
-      → IsErrAnd answer (λ given. given ≡ cause) → GivesSide may may_give w o attributes needs old input (Ok r) between
-      → GivesSide may may_give w o attributes needs new between (Err cause) read
-      → GivesSides may may_give w o attributes needs old new input answer read
+      → IsErrAnd answer (λ given. given ≡ cause) → GivesSide may may_give w o attributes needs sides.0 old input (Ok r) between
+      → GivesSide may may_give w o attributes needs sides.1 new between (Err cause) read
+      → GivesSides may may_give w o attributes needs sides old new input answer read
   new_missing (Ok both) cause r between is first none = absurd is
   new_missing (Err given) cause r between is first none =
-      subst (λ c. GivesSides may may_give w o attributes needs old new input (Err c) read) (sym is) (inr (r, between, first, none))
+      subst (λ c. GivesSides may may_give w o attributes needs sides old new input (Err c) read) (sym is) (inr (r, between, first, none))
+
+-- what the sides are decides whether a comparison is refused
+module _ (may_unlist : List ℕ → Option UnreadReason → Type 0) (d : DiffRequest) (sides : Side × Side)
+    (are : AreSides may_unlist d sides) where
+  pub sides_refused : (answer : Result (Side × Side) Cause) (cause : Cause) (refusal : Option (List ℕ))
+      → refusal_of d.walk d.old.now d.new.now sides ≡ refusal → IsErrAnd answer (λ given. given ≡ cause)
+      → AnswersRefusal refusal (Err cause) → AcceptsSides may_unlist d answer
+  sides_refused (Ok both) cause refusal is passed refused = absurd passed
+  sides_refused (Err given) cause None is passed refused = absurd refused
+  sides_refused (Err given) cause (Some lines) is passed refused =
+      inl (sides, lines, are, is, subst (IsTold lines) (sym passed) refused)
+
+  pub sides_accepted : (refusal : Option (List ℕ)) → refusal_of d.walk d.old.now d.new.now sides ≡ refusal
+      → AnswersRefusal refusal (Ok tt) → AcceptsSides may_unlist d (Ok sides)
+  sides_accepted None is accepted = (are, is)
+  sides_accepted (Some lines) is accepted = absurd accepted

@@ -1,13 +1,13 @@
--- Options that choose files of a directory, which a comparison of reports refuses.
-use Rattle.std.specs.Prelude.{◌≡◌, ◌≢◌, ◌⊎◌, ℕ, Bool, true, false, not, if◌then◌else◌, List, ◌++◌, Option, Some, None, is_some, Result, Ok}
-use Rattle.std.specs.Prelude.{Err}
-use Rattle.std.specs.Prelude.{codes}
+-- Which comparisons are refused by what their sides are.
+use Rattle.std.specs.Prelude.{◌≡◌, ◌⊎◌, ℕ, not, if◌then◌else◌, List, ◌++◌, Option, Some, None, is_some, option_map, Result, Ok, Err, codes}
 use Rattle.lc_glob.specs.Lists.{is_empty}
-use Rattle.lc_arguments.specs.declared.walk_request.WalkRequest.{WalkRequest}
+use Rattle.lc_arguments.specs.declared.{diff.DiffRequest.DiffRequest, walk_request.WalkRequest.WalkRequest}
 use Rattle.lc_program.specs.{Reasons.unexplained_line, ReportLines.{IsTold, origin_of}, Sides.IsSide}
 use Rattle.lc_program.specs.declared.cause.Cause.{Cause, TheVariants.Memory}
-use Rattle.lc_program.specs.declared.unread_reason.UnreadReason.{UnreadReason, TheVariants.Missing}
+use Rattle.lc_program.specs.declared.sides.Side.{Side, TheVariants.{Directory, Missing}}
+use Rattle.lc_program.specs.declared.unread_reason.UnreadReason.{UnreadReason}
 use Rattle.lc_text.specs.Visible.{visible_bytes}
+use Rattle.lc_program.specs.declared.unread_reason.UnreadReason.TheVariants as reason
 
 -- the words that say that both sides are reports
 abbrev pub are_reports : List ℕ → List ℕ → List ℕ
@@ -32,30 +32,36 @@ first_choice w =
     else if w.one_file_system then Some (codes "--one-file-system")
     else None
 
--- how options that choose files are accepted or refused. Accepted: there is no such option, or a side is a directory. Refused: there is
--- one, and both sides are reports; or an allocation fails
-abbrev pub AnswersChoices : (List ℕ → Option UnreadReason → Type 0) → WalkRequest → List ℕ → List ℕ → Result (Unit {0}) Cause → Type 0
-AnswersChoices may_unlist w old new (Ok _) = (first_choice w ≡ None) ⊎ (IsSide may_unlist old true ⊎ IsSide may_unlist new true)
-AnswersChoices may_unlist w old new (Err cause) =
-    ((option : List ℕ) × (first_choice w ≡ Some option) × IsSide may_unlist old false × IsSide may_unlist new false
-    × IsTold (choice_line option old new) cause)
-    ⊎ (cause ≡ Memory)
-
--- whether nothing has the name of a side, by the reason that the system may give why no directory of this name can be listed
-abbrev pub IsMissing : (List ℕ → Option UnreadReason → Type 0) → List ℕ → Bool → Type 0
-IsMissing may_unlist name true = (name ≢ codes "-") × may_unlist name (Some Missing)
-IsMissing may_unlist name false =
-    (name ≡ codes "-") ⊎ ((why : Option UnreadReason) × may_unlist name why × (why ≢ Some Missing))
-
 -- the lines that say that a side is missing, and how commits are compared
 abbrev pub missing_lines : List ℕ → List ℕ
 missing_lines old =
-    unexplained_line old (Some Missing)
+    unexplained_line old (Some reason.Missing)
     ++ codes "lc: to compare a commit: git worktree add --detach ../old COMMIT && lc diff ../old .\n"
 
--- how sides are accepted or refused by their names. Accepted: something has the name of one. Refused: nothing has the name of either; or an
--- allocation fails
-abbrev pub AnswersMissing : (List ℕ → Option UnreadReason → Type 0) → List ℕ → List ℕ → Result (Unit {0}) Cause → Type 0
-AnswersMissing may_unlist old new (Ok _) = IsMissing may_unlist old false ⊎ IsMissing may_unlist new false
-AnswersMissing may_unlist old new (Err cause) =
-    (IsMissing may_unlist old true × IsMissing may_unlist new true × IsTold (missing_lines old) cause) ⊎ (cause ≡ Memory)
+-- why a comparison of what these sides are is refused, as lines: nothing has the name of either; or an option chooses files, and neither
+-- is a directory
+abbrev pub refusal_of : WalkRequest → List ℕ → List ℕ → Side × Side → Option (List ℕ)
+refusal_of w old new (Missing, Missing) = Some (missing_lines old)
+refusal_of w old new (Directory, other) = None
+refusal_of w old new (other, Directory) = None
+refusal_of w old new sides = option_map (λ option. choice_line option old new) (first_choice w)
+
+-- a comparison is refused with these lines, or is not
+abbrev pub AnswersRefusal : Option (List ℕ) → Result (Unit {0}) Cause → Type 0
+AnswersRefusal None (Ok _) = Unit {0}
+AnswersRefusal None (Err cause) = ⊥
+AnswersRefusal (Some lines) (Ok _) = ⊥
+AnswersRefusal (Some lines) (Err cause) = IsTold lines cause
+
+module _ (may_unlist : List ℕ → Option UnreadReason → Type 0) (d : DiffRequest) where
+  -- what the sides of a comparison are, by the system's answers
+  abbrev pub AreSides : Side × Side → Type 0
+  AreSides sides = IsSide may_unlist d.old.now sides.0 × IsSide may_unlist d.new.now sides.1
+
+  -- the sides are accepted; or the comparison is refused, or an allocation fails
+  abbrev pub AcceptsSides : Result (Side × Side) Cause → Type 0
+  AcceptsSides (Ok sides) = AreSides sides × (refusal_of d.walk d.old.now d.new.now sides ≡ None)
+  AcceptsSides (Err cause) =
+      ((sides : Side × Side) × (lines : List ℕ) × AreSides sides × (refusal_of d.walk d.old.now d.new.now sides ≡ Some lines)
+      × IsTold lines cause)
+      ⊎ (cause ≡ Memory)

@@ -1,22 +1,20 @@
 -- How a comparison is answered, by what was read and written.
-use Rattle.std.specs.Prelude.{◌≡◌, ◌⊎◌, ◌||◌, ℕ, Bool, true, false, cond, not, List, Some, None, Result, Ok, Err, unwrap_or}
-use Rattle.lc_arguments.specs.{TableWords.{number_of, output_in}, declared.diff.DiffRequest.DiffRequest}
+use Rattle.std.specs.Prelude.{◌≡◌, ◌⊎◌, ◌||◌, ◌&&◌, ℕ, Bool, true, false, not, List, [], ◌∷◌, Some, None, Result, Ok, Err, unwrap_or}
+use Rattle.lc_arguments.specs.{TableWords.{number_of, order_in, output_in}, declared.diff.DiffRequest.DiffRequest}
 use Rattle.lc_arguments.specs.declared.table.TableRequest.{TableRequest}
 use Rattle.lc_changes.specs.{ChangeSheets.{AreChangesOf, ChangesModel}, KeptChanges.AreKeptParts}
 use Rattle.lc_changes.specs.declared.options.ChangeOptions.{ChangeOptions}
 use Rattle.lc_formats.specs.Texts.{IsTextIn}
-use Rattle.lc_io.specs.{Reads.Answer, Writes.{StopsWriting, Writes}, declared.{printing.PrintFault.PrintFault, source.Failed.Failed}}
-use Rattle.lc_program.specs.{Causes.print_cause, Choices.{AnswersChoices, AnswersMissing}, PathLists.emptied_line}
-use Rattle.lc_program.specs.{Replies.{IsReplyWith, Reply}, Sides.GivesSides, Systems.SystemMay}
-use Rattle.lc_program.specs.WalkRequests.{IsPrepared, IsUnprepared, columns_of, named_in}
-use Rattle.lc_program.specs.declared.{answered.Answered.TheVariants.Compared, cause.Cause.{Cause, TheVariants.Memory}}
-use Rattle.lc_program.specs.declared.comparison.Comparison.{Comparison}
+use Rattle.lc_glob.specs.Lists.{is_empty}
+use Rattle.lc_io.specs.{Reads.Answer, declared.source.Failed.Failed}
+use Rattle.lc_program.specs.{Choices.AcceptsSides, PathLists.emptied_line, SideFaults.lines_of, Sides.GivesSides}
+use Rattle.lc_program.specs.{Replies.{AnswerModel, Reply, WritesAnswer, joined}, Systems.SystemMay, Unmatched.unmatched_of}
+use Rattle.lc_program.specs.{Unnamed.AreRemarks, WalkRequests.{IsPrepared, IsUnprepared, columns_of, named_in}}
+use Rattle.lc_program.specs.declared.{cause.Cause.{Cause, TheVariants.Memory}, sides.Side.{Side, TheVariants.Directory}}
 use Rattle.lc_rows.specs.Kept.{IsKept}
-use Rattle.lc_sheet.specs.{ChangeKinds.are_all_changes, Formats.is_for_reading, Sheets.sheet_format, declared.column.Number.TheVariants.Lines}
-use Rattle.lc_sheet.specs.declared.table_options.{Columns.Columns, Format.Format, Order.{Order, TheVariants.{Name, Largest}}, Output.Output}
+use Rattle.lc_sheet.specs.{ChangeKinds.are_all_changes, Sheets.sheet_format, declared.table_options.{Columns.Columns, Format.Format}}
 use Rattle.lc_reports.specs.{Needs.needs_of, declared.needs.Needs.Needs}
 use Rattle.lc_walk.specs.declared.{options.{Options.Options, ReportLists.ReportLists}, report.Report.Report}
-use Rattle.lc_io.specs.declared.printing.PrintFault.TheVariants as print
 
 -- ---- what is asked
 
@@ -65,57 +63,66 @@ pub record IsChangesText (options : ChangeOptions) (attributes : List (List ℕ)
   pub is_text : IsTextIn options.format changes.sheet text
   pub is_differ : differ ≡ changes.some_differ
 
-module _ {O : Type 0} (may_take : O → List ℕ → Result ℕ Failed → O → Type 0) where
-  -- how the changes between two reports are printed: they were written whole; or a write failed; or an allocation failed, and nothing was
-  -- written
-  abbrev pub AnswersChanges : ChangeOptions → List (List ℕ) → Report → Report → O → Result Bool PrintFault → O → Type 0
-  AnswersChanges options attributes old new out (Ok differ) wrote =
-      (text : List ℕ) × IsChangesText options attributes old new text differ × Writes may_take out text wrote
-  AnswersChanges options attributes old new out (Err print.Write) wrote =
-      (text : List ℕ) × (differ : Bool) × IsChangesText options attributes old new text differ × StopsWriting may_take out text wrote
-  AnswersChanges options attributes old new out (Err print.Memory) wrote = wrote ≡ out
+module _ (d : DiffRequest) (emptied : List ℕ) (attributes : List (List ℕ)) (old new : Report) where
+  -- standard error gets these lines about a comparison of two reports: what could not be read on each side, the line about the list of
+  -- paths and the attributes of these that no file names, and which patterns can match nothing
+  abbrev pub AreDiffLines : List ℕ → Type 0
+  AreDiffLines told =
+      (remarks : List ℕ) × AreRemarks emptied attributes remarks
+      × (told ≡ joined (lines_of d.old.now old.faults.items d.new.now new.faults.items ∷ remarks ∷ unmatched_of d.walk.filters ∷ []))
 
-  -- how the changes between what two reports have that meets the conditions are printed: they were written whole; or not, or not whole; or
-  -- an allocation failed
-  abbrev pub PrintsChanges : Format → DiffRequest → Report → Report → O → Result Comparison Cause → O → Type 0
-  PrintsChanges other d old new out (Ok c) wrote =
-      KeepsAsked d old new c.old c.new
-      × AnswersChanges (change_options other d) (columns_of d.attributes.items) c.old c.new out (Ok c.differ) wrote
-  PrintsChanges other d old new out (Err cause) wrote =
-      ((cause ≡ Memory) × (wrote ≡ out))
-      ⊎ ((a b : Report) × (fault : PrintFault) × KeepsAsked d old new a b × (cause ≡ print_cause fault)
-      × AnswersChanges (change_options other d) (columns_of d.attributes.items) a b out (Err fault) wrote)
+-- what is known of a comparison of two reports, by whether they differ, and with these lines for standard error
+abbrev pub diff_answer : DiffRequest → Report → Report → Bool → List ℕ → AnswerModel
+diff_answer d old new differ told = record {
+  has_faults = not (is_empty old.faults.items && is_empty new.faults.items);
+  fails = d.fail_if_any && differ;
+  told = told;
+}
+
+module _ {O : Type 0} (may_take : O → List ℕ → Result ℕ Failed → O → Type 0) (other : Format) (d : DiffRequest) (emptied : List ℕ)
+    (attributes : List (List ℕ)) where
+  -- how the changes between what two reports have that meets the conditions are printed: they were written, and the rest of the reply is
+  -- this; or an allocation failed, and nothing was written
+  abbrev pub PrintsChanges : Report → Report → O → Reply → O → Type 0
+  PrintsChanges old new out reply wrote =
+      ((kept_old kept_new : Report) × (text told : List ℕ) × (differ : Bool) × KeepsAsked d old new kept_old kept_new
+      × IsChangesText (change_options other d) (columns_of d.attributes.items) kept_old kept_new text differ
+      × AreDiffLines d emptied attributes kept_old kept_new told
+      × WritesAnswer may_take text (diff_answer d kept_old kept_new differ told) out reply wrote)
+      ⊎ ((reply ≡ Err Memory) × (wrote ≡ out))
 
   -- the changes between both sides are printed; or a side has no report, and nothing was written
-  abbrev pub PrintsSides : Format → DiffRequest → Result (Report × Report) Cause → O → Result Comparison Cause → O → Type 0
-  PrintsSides other d (Ok both) out answer wrote = PrintsChanges other d both.0 both.1 out answer wrote
-  PrintsSides other d (Err cause) out answer wrote = (answer ≡ Err cause) × (wrote ≡ out)
+  abbrev pub PrintsSides : Result (Report × Report) Cause → O → Reply → O → Type 0
+  PrintsSides (Ok both) out reply wrote = PrintsChanges both.0 both.1 out reply wrote
+  PrintsSides (Err cause) out reply wrote = (reply ≡ Err cause) × (wrote ≡ out)
+
+-- the attributes of these that standard error may get lines about: none if neither side is a directory
+abbrev pub names_for : Side × Side → List (List ℕ) → List (List ℕ)
+names_for (Directory, other) names = names
+names_for (other, Directory) names = names
+names_for sides names = []
 
 module _ (may : SystemMay) {I O : Type 0} (may_give : I → ℕ → Answer → I → Type 0)
     (may_take : O → List ℕ → Result ℕ Failed → O → Type 0) (other : Format) (d : DiffRequest) where
-  -- by these options of walks, both sides were counted or read, and their changes were printed
-  abbrev pub ComparesSides : Options → I → O → Reply → I → O → Type 0
-  ComparesSides o input out reply read wrote =
-      (sides : Result (Report × Report) Cause) × GivesSides may may_give d.walk o (columns_of d.attributes.items) (compared_needs d)
-      d.old.now d.new.now input sides read
-      × ((answer : Result Comparison Cause)
-      × IsReplyWith Compared (emptied_line d.walk.only_from o.filters.now.only) (named_in d.walk d.attributes.items) answer reply
-      × PrintsSides may_take other d sides out answer wrote)
+  -- by these options of walks, both sides, which are these, were counted or read, and their changes were printed
+  abbrev pub ComparesSides : Side × Side → Options → I → O → Reply → I → O → Type 0
+  ComparesSides sides o input out reply read wrote =
+      (reports : Result (Report × Report) Cause) × GivesSides may may_give d.walk o (columns_of d.attributes.items) (compared_needs d)
+      sides d.old.now d.new.now input reports read
+      × PrintsSides may_take other d (emptied_line d.walk.only_from o.filters.now.only)
+      (names_for sides (named_in d.walk d.attributes.items)) reports out reply wrote
 
-  -- how a comparison with fitting options is answered: the sides were compared as the command line requests; or the walks could not be
-  -- prepared, and nothing was written
-  abbrev pub AnswersSides : I → O → Reply → I → O → Type 0
-  AnswersSides input out reply read wrote =
+  -- how a comparison of these sides is answered: they were compared as the command line requests; or the walks could not be prepared, and
+  -- nothing was written
+  abbrev pub AnswersSides : Side × Side → I → O → Reply → I → O → Type 0
+  AnswersSides sides input out reply read wrote =
       ((o : Options) × (between : I) × IsPrepared may may_give d.walk d.attributes.items (compared_lists d) input o between
-      × ComparesSides o between out reply read wrote)
+      × ComparesSides sides o between out reply read wrote)
       ⊎ ((cause : Cause) × IsUnprepared may may_give d.walk input cause read × (reply ≡ Err cause) × (wrote ≡ out))
 
-  -- how a comparison is answered: both sides are compared; or nothing has the name of either, or an option chooses files but both sides are
-  -- reports, or an allocation fails, and nothing was read or written
+  -- how a comparison is answered: both sides are compared; or nothing has the name of either, or an option chooses files but neither is a
+  -- directory, or an allocation fails, and nothing was read or written
   abbrev pub AnswersDiff : I → O → Reply → I → O → Type 0
   AnswersDiff input out reply read wrote =
-      (AnswersMissing may.unlist d.old.now d.new.now (Ok tt) × AnswersChoices may.unlist d.walk d.old.now d.new.now (Ok tt)
-      × AnswersSides input out reply read wrote)
-      ⊎ ((cause : Cause)
-      × (AnswersMissing may.unlist d.old.now d.new.now (Err cause) ⊎ AnswersChoices may.unlist d.walk d.old.now d.new.now (Err cause))
-      × (reply ≡ Err cause) × (read ≡ input) × (wrote ≡ out))
+      ((sides : Side × Side) × AcceptsSides may.unlist d (Ok sides) × AnswersSides sides input out reply read wrote)
+      ⊎ ((cause : Cause) × AcceptsSides may.unlist d (Err cause) × (reply ≡ Err cause) × (read ≡ input) × (wrote ≡ out))

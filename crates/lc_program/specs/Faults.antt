@@ -1,13 +1,12 @@
 -- The lines on standard error about what a count or a sum could not read.
-use Rattle.std.specs.Prelude.{◌≡◌, ◌⊎◌, ℕ, Bool, true, false, cond, not, List, [], ◌∷◌, ◌++◌, length, flat_map, bytes_eq, codes, decimal}
-use Rattle.std.specs.{Prelude.{nat_eq, Option, Result}, List.{filter, list_any}}
+use Rattle.std.specs.Prelude.{◌≡◌, ℕ, Bool, true, false, cond, not, List, [], ◌∷◌, ◌++◌, length, flat_map, bytes_eq, codes, decimal}
+use Rattle.std.specs.{Prelude.{nat_eq, Option}, List.{filter, list_any}}
 use Rattle.lc_arguments.specs.Directories.{unslashed}
-use Rattle.lc_io.specs.declared.source.Failed.{Failed}
 use Rattle.lc_level.specs.FaultLines.{FaultLineModel}
 use Rattle.lc_text.specs.Visible.{visible_bytes}
 use Rattle.lc_sheet.specs.declared.table_options.Format.TheVariants.{Tsv, Table, Json, Csv, Markdown}
 use Rattle.lc_sheet.specs.declared.table_options.Output.{Output, TheVariants.{Text, Picture, Tree, Paths}}
-use Rattle.lc_program.specs.{Commands.or_here, Reasons.uncounted_line, Tellings.Tells, Unlisted.short_line}
+use Rattle.lc_program.specs.{Commands.or_here, Reasons.uncounted_line}
 use Rattle.lc_program.specs.declared.unread_reason.UnreadReason.{UnreadReason}
 use Rattle.lc_reports.specs.Named.{named_top}
 
@@ -79,14 +78,11 @@ module _ (may_unlist : List ℕ → Option UnreadReason → Type 0) (directories
       (line rest : List ℕ) × IsTopLine (has_path (top_path directories directory) faults) directory line × AreTopLines others rest
       × (text ≡ line ++ rest)
 
-  -- a text has the lines about directories that could not be listed, and then the lines about paths inside the directories, by the format
-  abbrev pub AreFaultLines : Output → List ℕ → Type 0
-  AreFaultLines output text = (tops : List ℕ) × AreTopLines directories tops × (text ≡ tops ++ lines_if output (inside directories faults))
-
-module _ {E : Type 0} (may_take : E → List ℕ → Result ℕ Failed → E → Type 0) where
-  -- standard error gets the lines about what could not be read, or a shorter line if an allocation fails; it gets nothing if all was read
-  abbrev pub TellsFaults : (List ℕ → Option UnreadReason → Type 0) → List (List ℕ) → Output → List FaultLineModel → E → E → Type 0
-  TellsFaults may_unlist directories output [] err told = told ≡ err
-  TellsFaults may_unlist directories output (f ∷ fs) err told =
-      ((text : List ℕ) × AreFaultLines may_unlist directories (f ∷ fs) output text × Tells may_take err text told)
-      ⊎ Tells may_take err short_line told
+-- a text has the lines about what a count of these directories could not read: those about directories that could not be listed, and then
+-- those about paths inside the directories, by the format; nothing if all was read
+module _ (may_unlist : List ℕ → Option UnreadReason → Type 0) (directories : List (List ℕ)) (output : Output) where
+  abbrev pub AreFaultLines : List FaultLineModel → List ℕ → Type 0
+  AreFaultLines [] text = text ≡ []
+  AreFaultLines (f ∷ fs) text =
+      (tops : List ℕ) × AreTopLines may_unlist directories (f ∷ fs) directories tops
+      × (text ≡ tops ++ lines_if output (inside directories (f ∷ fs)))

@@ -23,7 +23,6 @@ pub mod Sums
 pub mod Systems
 pub mod Tellings
 pub mod Typed
-pub mod Unlisted
 pub mod Unmatched
 pub mod Meant
 pub mod Unnamed

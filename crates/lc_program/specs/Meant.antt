@@ -1,10 +1,7 @@
 -- The lines about patterns of `--include` that may mean something else, where no file is counted.
-use Rattle.std.specs.Prelude.{◌≡◌, ◌⊎◌, ◌&&◌, ℕ, Bool, false, not, nat_eq, if◌then◌else◌, List, [], ◌∷◌, ◌++◌, map, flat_map, Result}
+use Rattle.std.specs.Prelude.{◌&&◌, ℕ, Bool, false, not, nat_eq, cond, if◌then◌else◌, List, [], ◌∷◌, ◌++◌, flat_map}
 use Rattle.std.specs.{Prelude.codes, Char.is_ascii_alphanumeric, List.{list_all, list_any}}
-use Rattle.lc_arguments.specs.declared.request.Request.{Request, TheVariants.Count}
 use Rattle.lc_glob.specs.{Lists.is_empty, Pieces.is_byte}
-use Rattle.lc_io.specs.declared.source.Failed.{Failed}
-use Rattle.lc_program.specs.{Tellings.Tells, declared.answered.Answered.{Answered, TheVariants.Counted}}
 
 -- whether a pattern is a dot and letters or digits, at least one
 abbrev pub is_extension : List ℕ → Bool
@@ -29,10 +26,6 @@ meant_line pattern =
 abbrev pub meant_lines : List (List ℕ) → List ℕ
 meant_lines patterns = flat_map meant_line patterns
 
-module _ {E : Type 0} (may_take : E → List ℕ → Result ℕ Failed → E → Type 0) where
-  -- standard error gets the lines about the patterns of a count that has no file, or nothing if an allocation fails
-  abbrev pub TellsMeant : Request → Answered → E → E → Type 0
-  TellsMeant (Count c) (Counted p remarks) err told =
-      ((p.report.totals.files ≡ 0) × Tells may_take err (meant_lines (map (λ pattern. pattern.now) c.walk.filters.include.items)) told)
-      ⊎ (told ≡ err)
-  TellsMeant request answered err told = told ≡ err
+-- the lines about the patterns of a count with this number of files: none if a file is counted
+abbrev pub meant_if : ℕ → List (List ℕ) → List ℕ
+meant_if files patterns = cond (nat_eq files 0) (meant_lines patterns) []

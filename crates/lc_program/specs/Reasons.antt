@@ -26,6 +26,11 @@ unread_for path why = codes "lc: cannot read " ++ visible_bytes path ++ reason_g
 abbrev pub unexplained_line : List ℕ → Option UnreadReason → List ℕ
 unexplained_line directory why = unread_for directory why ++ codes "\n"
 
+-- the line that says why the directory of an explanation could not be read; nothing where the system gives no reason
+abbrev pub why_line : List ℕ → Option UnreadReason → List ℕ
+why_line directory None = []
+why_line directory (Some why) = unexplained_line directory (Some why)
+
 -- a directory can't be listed for this reason: it is none
 abbrev pub is_no_directory : UnreadReason → Bool
 is_no_directory Missing = true

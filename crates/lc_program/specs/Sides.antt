@@ -1,5 +1,5 @@
 -- The sides of a comparison: directories that are counted, and reports that are read.
-use Rattle.std.specs.Prelude.{◌≡◌, ◌≢◌, ◌⊎◌, ℕ, Bool, true, false, List, [], Option, Some, None, Result, Ok, Err, Vec, codes}
+use Rattle.std.specs.Prelude.{◌≡◌, ◌≢◌, ◌⊎◌, ℕ, true, false, List, [], Option, Some, None, Result, Ok, Err, Vec, codes}
 use Rattle.std.specs.Global.{Global}
 use Rattle.lc_arguments.specs.declared.walk_request.WalkRequest.{WalkRequest}
 use Rattle.lc_io.specs.Reads.{Answer}
@@ -7,29 +7,30 @@ use Rattle.lc_program.specs.{Faults.has_path, Finds.IsCauseIn, LanguageColumns.H
 use Rattle.lc_program.specs.ReportFiles.{ReadsParts, Refuses}
 use Rattle.lc_program.specs.{ReportLines.{IsTold, IsUnsummedFor}, Systems.SystemMay, WalkRequests.entered_by}
 use Rattle.lc_program.specs.declared.cause.Cause.{Cause, TheVariants.Memory}
+use Rattle.lc_program.specs.declared.sides.Side.{Side}
 use Rattle.lc_program.specs.declared.unread_reason.UnreadReason.{UnreadReason}
 use Rattle.lc_program.specs.declared.unread_reason.UnreadReason.TheVariants.{Missing, Denied, IsDirectory, IsFile, NotDirectory, Other}
 use Rattle.lc_reports.specs.{Sums.IsSummed, declared.{needs.Needs.Needs, part.Part.Part, sum_fault.SumFault.SumFault}}
 use Rattle.lc_walk.specs.{Walks.Walks, declared.{options.Options.Options, report.Report.Report, walk_fault.WalkFault.WalkFault}}
+use Rattle.lc_program.specs.declared.sides.Side.TheVariants as side
 
--- ---- which sides are directories
+-- ---- what sides are
 
--- whether the reason why a name can't be listed is that no directory has this name
-abbrev pub is_no_directory : Option UnreadReason → Bool
-is_no_directory None = false
-is_no_directory (Some Missing) = true
-is_no_directory (Some Denied) = false
-is_no_directory (Some IsDirectory) = false
-is_no_directory (Some IsFile) = true
-is_no_directory (Some NotDirectory) = true
-is_no_directory (Some Other) = false
+-- what a side is, by the reason why no directory of this name can be listed, if there is one
+abbrev pub side_by : Option UnreadReason → Side
+side_by None = side.Directory
+side_by (Some Missing) = side.Missing
+side_by (Some Denied) = side.Directory
+side_by (Some IsDirectory) = side.Directory
+side_by (Some IsFile) = side.Report
+side_by (Some NotDirectory) = side.Report
+side_by (Some Other) = side.Directory
 
--- whether a side is a directory, by the reason that the system may give why a directory of this name can't be listed. `-` is standard input
-abbrev pub IsSide : (List ℕ → Option UnreadReason → Type 0) → List ℕ → Bool → Type 0
-IsSide may_unlist name true =
-    (name ≢ codes "-") × ((why : Option UnreadReason) × may_unlist name why × (is_no_directory why ≡ false))
-IsSide may_unlist name false =
-    (name ≡ codes "-") ⊎ ((why : Option UnreadReason) × may_unlist name why × (is_no_directory why ≡ true))
+-- what the side with this name is, by the reason that the system may give. `-` is standard input
+abbrev pub IsSide : (List ℕ → Option UnreadReason → Type 0) → List ℕ → Side → Type 0
+IsSide may_unlist name s =
+    ((name ≡ codes "-") × (s ≡ side.Report))
+    ⊎ ((name ≢ codes "-") × ((why : Option UnreadReason) × may_unlist name why × (s ≡ side_by why)))
 
 -- ---- the report of a side
 
@@ -64,17 +65,16 @@ module _ (may : SystemMay) {I : Type 0} (may_give : I → ℕ → Answer → I �
 
 module _ (may : SystemMay) {I : Type 0} (may_give : I → ℕ → Answer → I → Type 0) (w : WalkRequest) (o : Options)
     (attributes : List (List ℕ)) (needs : Needs) where
-  -- the report of a side, or why there is none. Memory may be refused before it is known what the side is
-  abbrev pub GivesSide : List ℕ → I → Result Report Cause → I → Type 0
-  GivesSide name input answer read =
-      (IsSide may.unlist name true × CountsSide may w o attributes name answer × (read ≡ input))
-      ⊎ (IsSide may.unlist name false × ReadsSide may may_give attributes needs name input answer read)
-      ⊎ ((answer ≡ Err Memory) × (read ≡ input))
+  -- the report of a side, or why there is none
+  abbrev pub GivesSide : Side → List ℕ → I → Result Report Cause → I → Type 0
+  GivesSide side.Directory name input answer read = CountsSide may w o attributes name answer × (read ≡ input)
+  GivesSide side.Report name input answer read = ReadsSide may may_give attributes needs name input answer read
+  GivesSide side.Missing name input answer read = ReadsSide may may_give attributes needs name input answer read
 
   -- the reports of both sides, the old side first, or why there is none
-  abbrev pub GivesSides : List ℕ → List ℕ → I → Result (Report × Report) Cause → I → Type 0
-  GivesSides old new input (Ok both) read =
-      (between : I) × GivesSide old input (Ok both.0) between × GivesSide new between (Ok both.1) read
-  GivesSides old new input (Err cause) read =
-      GivesSide old input (Err cause) read
-      ⊎ ((r : Report) × (between : I) × GivesSide old input (Ok r) between × GivesSide new between (Err cause) read)
+  abbrev pub GivesSides : Side × Side → List ℕ → List ℕ → I → Result (Report × Report) Cause → I → Type 0
+  GivesSides sides old new input (Ok both) read =
+      (between : I) × GivesSide sides.0 old input (Ok both.0) between × GivesSide sides.1 new between (Ok both.1) read
+  GivesSides sides old new input (Err cause) read =
+      GivesSide sides.0 old input (Err cause) read
+      ⊎ ((r : Report) × (between : I) × GivesSide sides.0 old input (Ok r) between × GivesSide sides.1 new between (Err cause) read)

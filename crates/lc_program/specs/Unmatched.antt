@@ -1,7 +1,6 @@
 -- The lines about patterns that can match nothing.
 use Rattle.std.specs.{Prelude.{ℕ, cond, List, [], ◌++◌, codes, flat_map}, Borrow.Bor}
 use Rattle.lc_arguments.specs.declared.filter_request.FilterRequest.{FilterRequest}
-use Rattle.lc_arguments.specs.declared.request.Request.{Request, TheVariants.{CheckJoined, Check, Count, Diff, Explain, Languages, Sum}}
 use Rattle.lc_rules.specs.CanMatch.{can_match}
 use Rattle.lc_text.specs.Visible.{visible_bytes}
 
@@ -20,13 +19,3 @@ unmatched_lines patterns = flat_map (λ (p : Bor (List ℕ)). unmatched_text p.n
 -- a line for each pattern that can match nothing: those of `--exclude`, and then those of `--include`
 abbrev pub unmatched_of : FilterRequest → List ℕ
 unmatched_of e = unmatched_lines e.exclude.items ++ unmatched_lines e.include.items
-
--- a line for each pattern of a request that can match nothing
-abbrev pub unmatched_in : Request → List ℕ
-unmatched_in CheckJoined = []
-unmatched_in (Check c) = []
-unmatched_in (Count c) = unmatched_of c.walk.filters
-unmatched_in (Explain c) = unmatched_of c.filters
-unmatched_in (Sum c) = []
-unmatched_in Languages = []
-unmatched_in (Diff d) = unmatched_of d.walk.filters

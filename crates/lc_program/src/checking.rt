@@ -4,7 +4,7 @@ ghost use Rattle.std.specs.Prelude.{◌≡◌, false};
 ghost use Rattle.lc_program.specs.Requests.{AnswersFile, AnswersJoined};
 ghost use Rattle.lc_program.specs.Styles.{end_for, format_with};
 
-use crate::answered::Answered;
+use crate::answer::Answer;
 use crate::cause::Cause;
 use crate::rules_file::rule_text_of_file;
 use crate::system::System;
@@ -33,7 +33,7 @@ pub(crate) fn check_file<Y: System, S: Source, O: Sink>(
     style: PathStyle,
     input: &mut S,
     out: &mut O,
-) -> Result<Answered, Cause>
+) -> Result<Answer, Cause>
     ensures { AnswersFile S.may_give O.may_take (Y.holds system.now) (format_with asked.now.null style) asked.now.file.now
         asked.now.explain input.old out.old result input.new out.new }
 {
@@ -44,10 +44,10 @@ pub(crate) fn check_file<Y: System, S: Source, O: Sink>(
     let text = rule_text_of_file(alloc, system, asked.file)?;
     if asked.explain {
         check_explained(alloc, asked.file.as_bytes(), &text, format, input, out)?;
-        return Ok(Answered::Checked);
+        return Ok(Answer::clean(alloc));
     }
     check(alloc, text.rules(), format, input, out)?;
-    Ok(Answered::Checked)
+    Ok(Answer::clean(alloc))
 }
 
 /// Checks paths by rules, and reads both from the input.
@@ -56,7 +56,7 @@ pub(crate) fn check_input<S: Source, O: Sink>(
     style: PathStyle,
     input: &mut S,
     out: &mut O,
-) -> Result<Answered, Cause>
+) -> Result<Answer, Cause>
     ensures { AnswersJoined S.may_give O.may_take (format_with false style) input.old out.old result input.new out.new }
 {
     let format = PathFormat {
@@ -64,5 +64,5 @@ pub(crate) fn check_input<S: Source, O: Sink>(
         style,
     };
     check_joined(alloc, format, input, out)?;
-    Ok(Answered::Checked)
+    Ok(Answer::clean(alloc))
 }

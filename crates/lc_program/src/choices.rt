@@ -1,17 +1,16 @@
-//! Refuses a comparison of two reports if the command line has an option that chooses files of a directory, such as `--exclude`, and a
-//! comparison of which neither side exists.
+//! Refuses comparisons by what their sides are: if neither exists, and if neither is a directory, but the command line has an option that
+//! chooses files of a directory, such as `--exclude`.
 
 ghost use Rattle.std.specs.Prelude.{◌≡◌, ◌++◌, option_map, string_bytes, IfOk, OnOk};
-ghost use Rattle.lc_program.specs.Choices.{AnswersChoices, AnswersMissing, IsMissing, are_reports, choice_line, first_choice};
-ghost use Rattle.lc_program.specs.Choices.{missing_lines};
+ghost use Rattle.lc_program.specs.Choices.{AcceptsSides, AnswersRefusal, are_reports, choice_line, first_choice, missing_lines, refusal_of};
 
 use crate::cause::Cause;
 use crate::report_lines::{cause_with, origin_of};
-use crate::sides::is_directory;
+use crate::sides::Side;
 use crate::system::System;
 use crate::unlisted::unexplained_line;
 use crate::unread_reason::UnreadReason;
-use lc_arguments::WalkRequest;
+use lc_arguments::{DiffRequest, WalkRequest};
 use lc_text::push_visible;
 use std::alloc::{AllocError, Global};
 
@@ -66,36 +65,6 @@ fn choice_line(alloc: Global, option: &str, old: &str, new: &str) -> Result<Stri
     Ok(line)
 }
 
-/// Returns an error if an option chooses files of a directory, but both sides are reports. The system says whether a side is a directory.
-pub(crate) fn refuse_choices<Y: System>(
-    alloc: Global,
-    system: &Y,
-    walk: &WalkRequest<'_>,
-    old: &str,
-    new: &str,
-) -> Result<(), Cause>
-    ensures { AnswersChoices (Y.unlists system.now) walk.now old.now new.now result }
-{
-    let Some(option) = first_choice(walk) else {
-        return Ok(());
-    };
-    if is_directory(alloc, system, old)? || is_directory(alloc, system, new)? {
-        return Ok(());
-    }
-    Err(cause_with(choice_line(alloc, option, old, new)))
-}
-
-/// Returns whether the system says that a side does not exist. The side `-` is standard input.
-fn is_missing<Y: System>(alloc: Global, system: &Y, name: &str) -> Result<bool, AllocError>
-    ensures { IfOk result (IsMissing (Y.unlists system.now) name.now) }
-{
-    if name == "-" {
-        return Ok(false);
-    }
-    let why = system.why_unlisted(alloc, name)?;
-    Ok(matches!(why, Some(UnreadReason::Missing)))
-}
-
 /// Makes the lines that say that a side is missing, and how commits are compared.
 fn missing_lines(alloc: Global, old: &str) -> Result<String, AllocError>
     ensures { IfOk result (λ lines. string_bytes lines ≡ missing_lines old.now) }
@@ -107,17 +76,31 @@ fn missing_lines(alloc: Global, old: &str) -> Result<String, AllocError>
     Ok(lines)
 }
 
-/// Returns an error if neither side exists. Their names may be those of commits.
-pub(crate) fn refuse_missing<Y: System>(
+/// Returns an error if a comparison of what these sides are is refused: neither exists, and their names may be those of commits; or an
+/// option chooses files of a directory, and neither is one.
+fn refuse_sides(alloc: Global, asked: &DiffRequest<'_>, sides: (Side, Side)) -> Result<(), Cause>
+    ensures { AnswersRefusal (refusal_of asked.now.walk asked.now.old.now asked.now.new.now sides) result }
+{
+    match sides {
+        (Side::Missing, Side::Missing) => Err(cause_with(missing_lines(alloc, asked.old))),
+        (Side::Directory, _) | (_, Side::Directory) => Ok(()),
+        _ => match first_choice(&asked.walk) {
+            None => Ok(()),
+            Some(option) => Err(cause_with(choice_line(alloc, option, asked.old, asked.new))),
+        },
+    }
+}
+
+/// Queries the system, and returns what the sides of a comparison are, unless the comparison is refused.
+pub(crate) fn accepted_sides<Y: System>(
     alloc: Global,
     system: &Y,
-    old: &str,
-    new: &str,
-) -> Result<(), Cause>
-    ensures { AnswersMissing (Y.unlists system.now) old.now new.now result }
+    asked: &DiffRequest<'_>,
+) -> Result<(Side, Side), Cause>
+    ensures { AcceptsSides (Y.unlists system.now) asked.now result }
 {
-    if !is_missing(alloc, system, old)? || !is_missing(alloc, system, new)? {
-        return Ok(());
-    }
-    Err(cause_with(missing_lines(alloc, old)))
+    let old = Side::of(alloc, system, asked.old)?;
+    let new = Side::of(alloc, system, asked.new)?;
+    refuse_sides(alloc, asked, (old, new))?;
+    Ok((old, new))
 }

@@ -1,29 +1,32 @@
 //! Answers `lc diff`: compares two directories or reports, and prints the changes.
 
-ghost use Rattle.std.specs.Prelude.{◌≡◌, true, IfOk};
+ghost use Rattle.std.specs.Prelude.{◌≡◌, string_bytes, true, IfOk};
 ghost use Rattle.lc_arguments.specs.TableWords.{number_of};
 ghost use Rattle.lc_arguments.specs.Words.{IsDiffWithinLimits};
 ghost use Rattle.lc_changes.specs.ChangeSheets.{HasFilesFor};
-ghost use Rattle.lc_program.specs.Differences.{AnswersChanges, AnswersDiff, AnswersSides, IsChangesText, PrintsChanges, PrintsSides};
+ghost use Rattle.lc_level.specs.NamedAttributes.{noted};
+ghost use Rattle.lc_program.specs.Differences.{AnswersDiff, AreDiffLines, IsChangesText, PrintsChanges, PrintsSides};
 ghost use Rattle.lc_program.specs.Differences.{change_options, change_order, compared_columns, compared_lists, compared_needs};
-ghost use Rattle.lc_program.specs.Systems.{may_of};
-ghost use Rattle.lc_program.specs.declared.answered.Answered.TheVariants.{Compared};
+ghost use Rattle.lc_program.specs.Differences.{diff_answer, names_for};
+ghost use Rattle.lc_program.specs.{Systems.may_of, Unnamed.names_in};
 
-use crate::answered::{Answered, Remarks};
+use crate::answer::{Answer, print_answer};
 use crate::attributes::columns_of;
 use crate::cause::Cause;
-use crate::choices::{refuse_choices, refuse_missing};
-use crate::comparison::Comparison;
+use crate::choices::accepted_sides;
 use crate::counting::{options_of, prepared};
 use crate::filters::narrowed;
 use crate::path_list::{emptied_line, wanted_paths};
-use crate::sides::{SideOptions, both_sides};
+use crate::side_faults::{SideFaults, lines_of};
+use crate::sides::{Side, SideOptions, both_sides};
 use crate::system::System;
-use crate::unnamed::unnamed_lines;
+use crate::unmatched::unmatched_of;
+use crate::unnamed::WalkRemarks;
 use lc_arguments::{DiffRequest, TableRequest};
 use lc_changes::{ChangeOptions, ShownChanges, keep_changes};
 use lc_formats::text;
-use lc_io::{PrintFault, Sink, Source, print};
+use lc_io::{Sink, Source};
+use lc_level::NamedAttributes;
 use lc_reports::Needs;
 use lc_rows::keep;
 use lc_sheet::{AttributeColumn, Columns, Format, Number, Order, Output};
@@ -109,39 +112,64 @@ fn changes_text(
     Ok((text, shown.some_differ()))
 }
 
-/// Prints the changes from one report to another, and returns whether there are changes.
-fn print_changes<O: Sink>(
+/// Makes the lines that standard error gets about a comparison.
+fn diff_lines(
     alloc: Global,
-    options: &ChangeOptions,
-    columns: &[AttributeColumn],
+    asked: &DiffRequest<'_>,
     old: &Report,
     new: &Report,
-    out: &mut O,
-) -> Result<bool, PrintFault>
-    requires old_files { HasFilesFor options.now old.now.lists }
-    requires new_files { HasFilesFor options.now new.now.lists }
-    ensures { AnswersChanges O.may_take options.now columns.now old.now new.now out.old result out.new }
+    remarks: WalkRemarks<'_>,
+) -> Result<String, AllocError>
+    ensures { IfOk result (λ told. AreDiffLines asked.now remarks.entry.emptied.now (names_in remarks.entry.named) old.now new.now
+        (string_bytes told)) }
 {
-    let (text, differ) = changes_text(alloc, options, columns, old, new)?;
-    print(out, &text)?;
-    Ok(differ)
+    let old = SideFaults {
+        name: asked.old,
+        faults: &old.faults,
+    };
+    let new = SideFaults {
+        name: asked.new,
+        faults: &new.faults,
+    };
+    let unread = lines_of(alloc, old, new)?;
+    let options = remarks.lines(alloc)?;
+    let unmatched = unmatched_of(alloc, &asked.walk.filters)?;
+    let told = [unread.as_str(), options.as_str(), unmatched.as_str()].concat(alloc)?;
+    Ok(told)
+}
+
+/// Returns what is known of a comparison of two reports, by whether they differ, and with these lines for standard error.
+fn answer_of(
+    asked: &DiffRequest<'_>,
+    old: &Report,
+    new: &Report,
+    differ: bool,
+    told: String,
+) -> Answer
+    ensures { result ≡ diff_answer asked.now old.now new.now differ (string_bytes told) }
+{
+    Answer {
+        has_faults: !old.faults.is_empty() || !new.faults.is_empty(),
+        fails: asked.fail_if_any && differ,
+        told,
+    }
 }
 
 /// Drops from two reports the files that do not meet the conditions, and prints the changes from one report to the other.
 fn print_kept<O: Sink>(
     alloc: Global,
     asked: &DiffRequest<'_>,
-    old: Report,
-    new: Report,
+    sides: (Report, Report),
+    remarks: WalkRemarks<'_>,
     format: Format,
     out: &mut O,
-) -> Result<Comparison, Cause>
-    requires old_files { HasFilesFor (change_options format asked.now) old.lists }
-    requires new_files { HasFilesFor (change_options format asked.now) new.lists }
-    ensures { PrintsChanges O.may_take format asked.now old new out.old result out.new }
+) -> Result<Answer, Cause>
+    requires old_files { HasFilesFor (change_options format asked.now) sides.0.lists }
+    requires new_files { HasFilesFor (change_options format asked.now) sides.1.lists }
+    ensures { PrintsChanges O.may_take format asked.now remarks.entry.emptied.now (names_in remarks.entry.named) sides.0 sides.1 out.old
+        result out.new }
 {
-    let mut old = old;
-    let mut new = new;
+    let (mut old, mut new) = sides;
     keep(alloc, &asked.conditions, &mut old)?;
     keep(alloc, &asked.conditions, &mut new)?;
     let columns = columns_of(alloc, &asked.attributes)?;
@@ -153,8 +181,9 @@ fn print_kept<O: Sink>(
         &mut old,
         &mut new,
     )?;
-    let differ = print_changes(alloc, &options, &columns, &old, &new, out)?;
-    Ok(Comparison { old, new, differ })
+    let (text, differ) = changes_text(alloc, &options, &columns, &old, &new)?;
+    let told = diff_lines(alloc, asked, &old, &new, remarks)?;
+    print_answer(&text, answer_of(asked, &old, &new, differ, told), out)
 }
 
 /// Prints the changes from one side to the other, if both sides have reports.
@@ -162,32 +191,52 @@ fn print_sides<O: Sink>(
     alloc: Global,
     asked: &DiffRequest<'_>,
     sides: Result<(Report, Report), Cause>,
+    remarks: WalkRemarks<'_>,
     format: Format,
     out: &mut O,
-) -> Result<Comparison, Cause>
+) -> Result<Answer, Cause>
     requires old_files { IfOk sides (λ both. HasFilesFor (change_options format asked.now) both.0.lists) }
     requires new_files { IfOk sides (λ both. HasFilesFor (change_options format asked.now) both.1.lists) }
-    ensures { PrintsSides O.may_take format asked.now sides out.old result out.new }
+    ensures { PrintsSides O.may_take format asked.now remarks.entry.emptied.now (names_in remarks.entry.named) sides out.old result
+        out.new }
 {
     match sides {
-        Ok((old, new)) => print_kept(alloc, asked, old, new, format, out),
+        Ok(sides) => print_kept(alloc, asked, sides, remarks, format, out),
         Err(cause) => Err(cause),
     }
 }
 
-/// Counts or reads both sides of a comparison, and prints the changes from one side to the other.
-fn compare_sides<R: Threads + Wait + Sync + AllocGlobal, Y: System, S: Source, O: Sink>(
+/// Returns what there is to say of the options of a comparison of these sides. Reports name their attributes themselves, so nothing is said
+/// of attributes if neither side is a directory.
+fn remarks_of<'r>(
+    sides: (Side, Side),
+    emptied: &'r str,
+    named: &'r NamedAttributes,
+) -> WalkRemarks<'r>
+    ensures emptied { result.emptied.now ≡ emptied.now }
+    ensures named { names_in result.named ≡ names_for sides (noted named.now) }
+{
+    let named = match sides {
+        (Side::Directory, _) | (_, Side::Directory) => Some(named),
+        _ => None,
+    };
+    WalkRemarks { emptied, named }
+}
+
+/// Compares two directories or reports, and prints the changes. `format` is the format of the output if the command line names none.
+pub(crate) fn compare<R: Threads + Wait + Sync + AllocGlobal, Y: System, S: Source, O: Sink>(
     rt: &R,
     system: &Y,
     asked: &DiffRequest<'_>,
     format: Format,
     input: &mut S,
     out: &mut O,
-) -> Result<Answered, Cause>
+) -> Result<Answer, Cause>
     requires limits { IsDiffWithinLimits asked.now }
-    ensures { AnswersSides (may_of Y.Tree.Tree Y.System system.now)
+    ensures { AnswersDiff (may_of Y.Tree.Tree Y.System system.now)
         S.may_give O.may_take format asked.now input.old out.old result input.new out.new }
 {
+    let sides = accepted_sides(rt.alloc(), system, asked)?;
     let columns = columns_of(rt.alloc(), &asked.attributes)?;
     let (named, filters, list) = prepared(
         rt.alloc(),
@@ -206,30 +255,7 @@ fn compare_sides<R: Threads + Wait + Sync + AllocGlobal, Y: System, S: Source, O
         attributes: &columns,
         needs: compared_needs(asked),
     };
-    let sides = both_sides(rt, system, (asked.old, asked.new), how, input);
-    match print_sides(rt.alloc(), asked, sides, format, out) {
-        Ok(compared) => {
-            let unnamed = unnamed_lines(rt.alloc(), &named);
-            Ok(Answered::Compared(compared, Remarks { emptied, unnamed }))
-        }
-        Err(cause) => Err(cause),
-    }
-}
-
-/// Compares two directories or reports, and prints the changes. `format` is the format of the output if the command line names none.
-pub(crate) fn compare<R: Threads + Wait + Sync + AllocGlobal, Y: System, S: Source, O: Sink>(
-    rt: &R,
-    system: &Y,
-    asked: &DiffRequest<'_>,
-    format: Format,
-    input: &mut S,
-    out: &mut O,
-) -> Result<Answered, Cause>
-    requires limits { IsDiffWithinLimits asked.now }
-    ensures { AnswersDiff (may_of Y.Tree.Tree Y.System system.now)
-        S.may_give O.may_take format asked.now input.old out.old result input.new out.new }
-{
-    refuse_missing(rt.alloc(), system, asked.old, asked.new)?;
-    refuse_choices(rt.alloc(), system, &asked.walk, asked.old, asked.new)?;
-    compare_sides(rt, system, asked, format, input, out)
+    let reports = both_sides(rt, system, sides, (asked.old, asked.new), how, input);
+    let remarks = remarks_of(sides, &emptied, &named);
+    print_sides(rt.alloc(), asked, reports, remarks, format, out)
 }

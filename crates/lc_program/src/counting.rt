@@ -1,12 +1,12 @@
 //! Answers `lc count`: counts directories, and prints the table.
 
-ghost use Rattle.std.specs.Prelude.{◌≡◌, map, IfErr, IfOk, Ok};
+ghost use Rattle.std.specs.Prelude.{◌≡◌, map, string_bytes, IfErr, IfOk, Ok};
 ghost use Rattle.lc_arguments.specs.Words.{IsCountWithinLimits};
 ghost use Rattle.lc_arguments.specs.TableWords.{options_in};
-ghost use Rattle.lc_program.specs.Counts.{AnswersApart, AnswersCount, Prints, lists_of};
+ghost use Rattle.lc_program.specs.Counts.{AnswersApart, AnswersCount, AreCountLines, FindsNoneAsked, ShowsFound, lists_of};
 ghost use Rattle.lc_program.specs.Filters.{AnswersFilters};
 ghost use Rattle.lc_program.specs.PathLists.{GivesList};
-ghost use Rattle.lc_program.specs.Systems.{may_of};
+ghost use Rattle.lc_program.specs.{Systems.may_of, Unnamed.names_in};
 ghost use Rattle.lc_program.specs.WalkRequests.{IsAskedBy, IsUnprepared, named_in};
 ghost use Rattle.lc_level.specs.NamedAttributes.{noted};
 ghost use Rattle.lc_sheet.specs.AttributeColumns.{attribute_of};
@@ -14,26 +14,31 @@ ghost use Rattle.lc_walk.specs.AllColumns.{all_columns};
 ghost use Rattle.lc_rows.specs.WalkedReports.{ListsFilesFor};
 ghost use Rattle.lc_walk.specs.WalkOptions.{AreWithinLimits};
 
-use crate::answered::{Answered, Remarks};
+use crate::answer::{Answer, print_answer};
 use crate::attributes::{columns_of, named_attributes};
 use crate::cause::Cause;
 use crate::checking::path_end;
+use crate::faults::fault_lines;
 use crate::filters::{narrowed, read_filters};
 use crate::finding::found;
 use crate::heading::count_heading;
+use crate::hints::hint_for;
+use crate::meant::meant_if;
 use crate::nested::refuse_unless_apart;
 use crate::path_list::{emptied_line, list_of, wanted_paths};
 use crate::runs::Printed;
-use crate::showing::table;
+use crate::showing::part_text;
+use crate::streams::Terminals;
 use crate::system::System;
-use crate::unnamed::unnamed_lines;
+use crate::unmatched::unmatched_of;
+use crate::unnamed::WalkRemarks;
 use lc_arguments::{CountRequest, MAX_DIRS, MAX_THREADS, WalkRequest};
 use lc_board::limits::{MAX_CAPACITY, MAX_WORKERS};
 use lc_io::{Sink, Source};
 use lc_level::{Filters, NamedAttributes};
 use lc_sheet::{Columns, Format, ReportOptions, needs_files};
 use lc_walk::{Options, ReportLists};
-use std::alloc::Global;
+use std::alloc::{AllocError, Global};
 use std::sync::Wait;
 use std::thread::Threads;
 
@@ -95,19 +100,19 @@ pub(crate) fn options_of<'o>(
     }
 }
 
-/// Counts the directories that the command line names, and prints the table of what meets the conditions.
-fn print_found<R: Threads + Wait + Sync + AllocGlobal, Y: System, O: Sink>(
+/// Counts the directories that the command line names, and makes the text of what meets the conditions.
+fn found_text<R: Threads + Wait + Sync + AllocGlobal, Y: System>(
     rt: &R,
     system: &Y,
     asked: &CountRequest<'_>,
     options: &Options<'_>,
     format: Format,
-    out: &mut O,
-) -> Result<Printed, Cause>
+) -> Result<(Printed, Vec<u8>), Cause>
     requires limits { AreWithinLimits options.now }
     requires files { ListsFilesFor options.now (options_in format all_columns asked.now.table) }
-    ensures { Prints (may_of Y.Tree.Tree Y.System system.now)
-        O.may_take format asked.now options.now out.old result out.new }
+    ensures shown { IfOk result (λ made. ShowsFound (may_of Y.Tree.Tree Y.System system.now) asked.now options.now format made.0.report
+        (string_bytes made.0.refused) made.1.items) }
+    ensures none { IfErr result (FindsNoneAsked (may_of Y.Tree.Tree Y.System system.now) asked.now options.now) }
 {
     let columns = columns_of(rt.alloc(), &asked.attributes)?;
     let heading = count_heading(rt.alloc(), system, asked, &columns)?;
@@ -120,8 +125,49 @@ fn print_found<R: Threads + Wait + Sync + AllocGlobal, Y: System, O: Sink>(
         chosen: &heading.chosen,
         end: path_end(asked.walk.null),
     };
-    let refused = table(rt.alloc(), &mut report, shown, out)?;
-    Ok(Printed { report, refused })
+    let made = part_text(rt.alloc(), &mut report, shown)?;
+    let printed = Printed {
+        report,
+        refused: made.refused,
+    };
+    Ok((printed, made.text))
+}
+
+/// Makes the lines that standard error gets about a count.
+fn count_lines<Y: System>(
+    alloc: Global,
+    system: &Y,
+    asked: &CountRequest<'_>,
+    terminals: Terminals,
+    printed: &Printed,
+    remarks: WalkRemarks<'_>,
+) -> Result<String, AllocError>
+    ensures { IfOk result (λ told. AreCountLines (may_of Y.Tree.Tree Y.System system.now) terminals asked.now remarks.entry.emptied.now
+        (names_in remarks.entry.named) printed.now.report (string_bytes printed.now.refused) (string_bytes told)) }
+{
+    let output = asked.table.output(terminals.format());
+    let unread = fault_lines(
+        alloc,
+        system,
+        &asked.directories,
+        output,
+        &printed.report.faults,
+    )?;
+    let options = remarks.lines(alloc)?;
+    let patterns = &asked.walk.filters;
+    let meant = meant_if(alloc, printed.report.totals.files, &patterns.include)?;
+    let unmatched = unmatched_of(alloc, patterns)?;
+    let hint = hint_for(alloc, system, terminals.error, &asked.directories)?;
+    let lines = [
+        unread.as_str(),
+        printed.refused.as_str(),
+        options.as_str(),
+        meant.as_str(),
+        unmatched.as_str(),
+        hint.as_str(),
+    ];
+    let told = lines.concat(alloc)?;
+    Ok(told)
 }
 
 /// Counts directories, none of which lies in another, and prints the table.
@@ -129,13 +175,13 @@ fn count_apart<R: Threads + Wait + Sync + AllocGlobal, Y: System, S: Source, O: 
     rt: &R,
     system: &Y,
     asked: &CountRequest<'_>,
-    format: Format,
+    terminals: Terminals,
     input: &mut S,
     out: &mut O,
-) -> Result<Answered, Cause>
+) -> Result<Answer, Cause>
     requires limits { IsCountWithinLimits asked.now }
     ensures { AnswersApart (may_of Y.Tree.Tree Y.System system.now)
-        S.may_give O.may_take format asked.now input.old out.old result input.new out.new }
+        S.may_give O.may_take terminals asked.now input.old out.old result input.new out.new }
 {
     let (named, filters, list) = prepared(
         rt.alloc(),
@@ -148,28 +194,29 @@ fn count_apart<R: Threads + Wait + Sync + AllocGlobal, Y: System, S: Source, O: 
     let emptied = emptied_line(rt.alloc(), asked.walk.only_from, &wanted)?;
     let filters = narrowed(rt.alloc(), filters, &wanted)?;
     let options = options_of(&asked.walk, lists_of(asked), &filters, &named);
-    match print_found(rt, system, asked, &options, format, out) {
-        Ok(printed) => {
-            let unnamed = unnamed_lines(rt.alloc(), &named);
-            Ok(Answered::Counted(printed, Remarks { emptied, unnamed }))
-        }
-        Err(cause) => Err(cause),
-    }
+    let (printed, text) = found_text(rt, system, asked, &options, terminals.format())?;
+    let remarks = WalkRemarks {
+        emptied: &emptied,
+        named: Some(&named),
+    };
+    let told = count_lines(rt.alloc(), system, asked, terminals, &printed, remarks)?;
+    print_answer(&text, printed.answer(asked.fail_if_any, told), out)
 }
 
-/// Counts directories and prints the table. `format` is the format of the table if the command line names none.
+/// Counts directories and prints the table. Which streams are terminals decides the format of the table, if the command line names none,
+/// and whether there is a hint.
 pub(crate) fn count<R: Threads + Wait + Sync + AllocGlobal, Y: System, S: Source, O: Sink>(
     rt: &R,
     system: &Y,
     asked: &CountRequest<'_>,
-    format: Format,
+    terminals: Terminals,
     input: &mut S,
     out: &mut O,
-) -> Result<Answered, Cause>
+) -> Result<Answer, Cause>
     requires limits { IsCountWithinLimits asked.now }
     ensures { AnswersCount (may_of Y.Tree.Tree Y.System system.now)
-        S.may_give O.may_take format asked.now input.old out.old result input.new out.new }
+        S.may_give O.may_take terminals asked.now input.old out.old result input.new out.new }
 {
     refuse_unless_apart(rt.alloc(), system, &asked.directories)?;
-    count_apart(rt, system, asked, format, input, out)
+    count_apart(rt, system, asked, terminals, input, out)
 }

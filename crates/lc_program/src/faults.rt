@@ -3,14 +3,13 @@
 ghost use Rattle.std.specs.Prelude.{◌≡◌, ◌++◌, map, string_bytes, IfOk, OnOk};
 ghost use Rattle.lc_level.specs.FaultLines.{FaultLineModel};
 ghost use Rattle.lc_program.specs.Commands.{or_here};
-ghost use Rattle.lc_program.specs.Faults.{AreFaultLines, AreTopLines, IsTopLine, TellsFaults, each_line, fault_rows, has_path};
+ghost use Rattle.lc_program.specs.Faults.{AreFaultLines, AreTopLines, IsTopLine, each_line, fault_rows, has_path};
 ghost use Rattle.lc_program.specs.Faults.{inside, is_inside};
 ghost use Rattle.lc_program.specs.Faults.{lines_by, lines_if, number_line, number_text, top_path, unread_line};
 
 use crate::system::System;
-use crate::unlisted::{tell_shortly, uncounted_line};
+use crate::unlisted::uncounted_line;
 use lc_arguments::unslashed;
-use lc_io::{Sink, print};
 use lc_sheet::{Format, Output};
 use lc_text::push_visible;
 use lc_walk::FaultLine;
@@ -90,7 +89,11 @@ fn lines_by(alloc: Global, output: Output, faults: &[&FaultLine]) -> Result<Stri
 }
 
 /// Makes the lines about the paths in the counted directories that could not be read, or none if all were read.
-fn lines_if(alloc: Global, output: Output, faults: &[&FaultLine]) -> Result<String, AllocError>
+pub(crate) fn lines_if(
+    alloc: Global,
+    output: Output,
+    faults: &[&FaultLine],
+) -> Result<String, AllocError>
     ensures { IfOk result (λ text. string_bytes text ≡ lines_if output (map (λ f. f.now) faults.now)) }
 {
     if faults.is_empty() {
@@ -131,7 +134,7 @@ fn is_inside(directories: &[&str], fault: &FaultLine) -> bool
 }
 
 /// Collects the errors about paths inside the counted directories, without errors about these directories themselves.
-fn inside<'f>(
+pub(crate) fn inside<'f>(
     alloc: Global,
     directories: &[&str],
     faults: &'f [FaultLine],
@@ -184,44 +187,24 @@ fn top_lines<Y: System>(
     Ok(text)
 }
 
-/// Makes the lines about what a count or a sum could not read.
-fn fault_lines<Y: System>(
+/// Makes the lines about what a count could not read. Each counted directory that could not be listed has a line. For CSV, HTML, trees and
+/// paths, each unread path inside the directories has a line too. For any other format, one line says where the output lists these paths.
+pub(crate) fn fault_lines<Y: System>(
     alloc: Global,
     system: &Y,
     directories: &[&str],
     output: Output,
     faults: &[FaultLine],
 ) -> Result<String, AllocError>
-    ensures { IfOk result (λ text. AreFaultLines (Y.unlists system.now) (map (λ d. d.now) directories.now) faults.now output
+    ensures { IfOk result (λ text. AreFaultLines (Y.unlists system.now) (map (λ d. d.now) directories.now) output faults.now
         (string_bytes text)) }
 {
+    if faults.is_empty() {
+        return Ok(String::new(alloc));
+    }
     let mut text = top_lines(alloc, system, directories, faults)?;
     let inside = inside(alloc, directories, faults)?;
     let others = lines_if(alloc, output, &inside)?;
     text.push_str(&others)?;
     Ok(text)
-}
-
-/// Writes to standard error what a count or a sum could not read. Each counted directory that could not be listed has a line. For CSV and
-/// HTML, each unread path inside the directories has a line too. For any other format, one line says where the output lists these paths.
-pub(crate) fn tell_faults<Y: System, E: Sink>(
-    alloc: Global,
-    system: &Y,
-    directories: &[&str],
-    output: Output,
-    faults: &[FaultLine],
-    err: &mut E,
-)
-    ensures { TellsFaults E.may_take (Y.unlists system.now) (map (λ d. d.now) directories.now) output faults.now err.old err.new }
-{
-    if faults.is_empty() {
-        return;
-    }
-    match fault_lines(alloc, system, directories, output, faults) {
-        // The exit status shows the errors too, so a line that can't be written changes nothing.
-        Ok(text) => {
-            let _ = print(err, text.as_bytes());
-        }
-        Err(AllocError) => tell_shortly(err),
-    }
 }

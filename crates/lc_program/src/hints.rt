@@ -3,13 +3,11 @@
 ghost use Rattle.std.specs.Prelude.{◌≡◌, map, option_map, string_bytes, IfOk};
 ghost use Rattle.std.specs.List.{AllZip, list_all};
 ghost use Rattle.lc_program.specs.Commands.{is_typed};
-ghost use Rattle.lc_program.specs.Hints.{Hints, HintsAbout, TellsAbove, first_above, hint, hint_alone, hint_with_command, paths_in};
+ghost use Rattle.lc_program.specs.Hints.{IsHintFor, first_above, hint, hint_alone, hint_of, hint_with_command, paths_in};
 
 use crate::commands::{is_typed, push_count};
 use crate::repository::Repository;
 use crate::system::System;
-use lc_arguments::Request;
-use lc_io::{Sink, print};
 use lc_text::push_visible;
 use std::alloc::{AllocError, Global};
 
@@ -105,18 +103,18 @@ fn first_above<'a>(
     None
 }
 
-/// Writes the hint about the first element of `directories` that lies in a repository.
-fn tell_above<E: Sink>(alloc: Global, directories: &[&str], all: &[Option<Repository>], err: &mut E)
-    ensures { TellsAbove E.may_take (map (λ d. d.now) directories.now) all.now err.old err.new }
+/// Makes the hint about the first element of `directories` that lies in a repository. The text is empty if none does.
+fn hint_above(
+    alloc: Global,
+    directories: &[&str],
+    all: &[Option<Repository>],
+) -> Result<String, AllocError>
+    ensures { IfOk result (λ text. string_bytes text ≡ hint_of all.now (first_above (map (λ d. d.now) directories.now) all.now)) }
 {
-    let Some((directory, above)) = first_above(directories, all) else {
-        return;
-    };
-    // Nothing depends on the hint, so a hint that can't be written changes nothing.
-    let _ = match hint_line(alloc, directory, above, all) {
-        Ok(text) => print(err, text.as_bytes()),
-        Err(AllocError) => print(err, b"lc: rules above this directory were not read\n"),
-    };
+    match first_above(directories, all) {
+        Some((directory, above)) => hint_line(alloc, directory, above, all),
+        None => Ok(String::new(alloc)),
+    }
 }
 
 /// Queries the system for the repository in which each directory lies.
@@ -134,37 +132,21 @@ fn repositories_above<Y: System>(
     Ok(repositories)
 }
 
-/// If one of `directories` lies in a repository, below the repository's top, writes a hint that rules in the directories above were not
-/// read.
-fn hint_about<Y: System, E: Sink>(alloc: Global, system: &Y, directories: &[&str], err: &mut E)
-    ensures { HintsAbout E.may_take (Y.lies system.now) (map (λ d. d.now) directories.now) err.old err.new }
-{
-    if let [directory] = directories {
-        // A single directory needs no list.
-        let above = [system.repository_above(alloc, directory)];
-        tell_above(alloc, directories, &above, err);
-        return;
-    }
-    if let Ok(above) = repositories_above(alloc, system, directories) {
-        tell_above(alloc, directories, &above, err);
-    }
-}
-
-/// If a counted directory lies in a repository, below the repository's top, writes a hint that rules in the directories above were not
-/// read. Only a terminal gets the hint.
-pub(crate) fn hint<Y: System, E: Sink>(
+/// Makes the hint that rules in the directories above a counted directory were not read, if one of the counted directories lies in a
+/// repository, below the repository's top. Only a terminal gets the hint.
+pub(crate) fn hint_for<Y: System>(
     alloc: Global,
     system: &Y,
-    request: &Request<'_>,
     stderr_is_terminal: bool,
-    err: &mut E,
-)
-    ensures { Hints E.may_take (Y.lies system.now) stderr_is_terminal request.now err.old err.new }
+    directories: &[&str],
+) -> Result<String, AllocError>
+    ensures { IfOk result (λ text. IsHintFor (Y.lies system.now) stderr_is_terminal (map (λ d. d.now) directories.now)
+        (string_bytes text)) }
 {
-    let Request::Count(asked) = request else {
-        return;
-    };
-    if stderr_is_terminal {
-        hint_about(alloc, system, &asked.directories, err);
+    if !stderr_is_terminal {
+        return Ok(String::new(alloc));
     }
+    let all = repositories_above(alloc, system, directories)?;
+    let text = hint_above(alloc, directories, &all)?;
+    Ok(text)
 }

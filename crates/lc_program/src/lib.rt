@@ -7,12 +7,12 @@
 //! - `repository`: the repository above a directory
 //! - `streams`: the streams of the program, and which of them are terminals
 //! - `attributes`: the attributes that the command line names, as columns and as words to look for
-//! - `answering`, `answered`: answering each request, and the answers
+//! - `answering`, `answer`: answering each request, and what is known of an answer
 //! - `checking`: answering `lc check`
 //! - `counting`: answering `lc count`
 //! - `explaining`: answering `lc explain`
 //! - `summing`: answering `lc sum`
-//! - `comparing`, `comparison`: answering `lc diff`, and the result of a comparison
+//! - `comparing`: answering `lc diff`
 //! - `filters`: the options of a command line that decide which entries are skipped
 //! - `rules_file`: the rules of a file that a command line names
 //! - `path_list`: the paths in the file of `--only-from`
@@ -22,7 +22,7 @@
 //! - `finding`: the report of the counted directories
 //! - `nested`: refusing to count a directory that lies in another counted directory
 //! - `sides`: the two sides of a comparison, which are directories or reports
-//! - `choices`: refusing options that choose files, if both sides of a comparison are reports, or if neither side exists
+//! - `choices`: refusing comparisons by what their sides are
 //! - `runs`: the walk of a tree, and the table of its report
 //! - `showing`: making and writing the text of a report
 //! - `ending`, `cause`: how the program ends, and why it stops with an error
@@ -39,7 +39,7 @@
 //! - `commands`: the commands that the lines on standard error suggest
 #![tactic(auto)]
 
-mod answered;
+mod answer;
 mod answering;
 mod attributes;
 mod cause;
@@ -48,7 +48,6 @@ mod choices;
 mod chosen;
 mod commands;
 mod comparing;
-mod comparison;
 mod counting;
 mod ending;
 mod explaining;

@@ -3,12 +3,8 @@
 ghost use Rattle.std.specs.Prelude.{◌≡◌, map, string_bytes, IfOk};
 ghost use Rattle.std.specs.Char.{is_ascii_alphanumeric};
 ghost use Rattle.std.specs.List.{list_all};
-ghost use Rattle.lc_program.specs.Meant.{TellsMeant, extension_line, has_braces, is_extension, meant_line, meant_lines};
+ghost use Rattle.lc_program.specs.Meant.{extension_line, has_braces, is_extension, meant_if, meant_line, meant_lines};
 
-use crate::answered::Answered;
-use crate::telling::tell;
-use lc_arguments::Request;
-use lc_io::Sink;
 use lc_text::push_visible;
 use std::alloc::{AllocError, Global};
 
@@ -74,21 +70,13 @@ fn meant_lines(alloc: Global, patterns: &[&str]) -> Result<String, AllocError>
     Ok(text)
 }
 
-/// Writes the lines about the patterns of `--include` of a count that has no file. If there is no memory for them, nothing is written,
-/// since nothing depends on them.
-pub(crate) fn tell_meant<E: Sink>(
-    alloc: Global,
-    request: &Request<'_>,
-    answered: &Answered,
-    err: &mut E,
-)
-    ensures { TellsMeant E.may_take request.now answered.now err.old err.new }
+/// Makes the lines about the patterns of `--include` of a count with this number of files. There are none if a file is counted.
+pub(crate) fn meant_if(alloc: Global, files: u64, patterns: &[&str]) -> Result<String, AllocError>
+    ensures { IfOk result (λ text. string_bytes text ≡ meant_if files (map (λ pattern. pattern.now) patterns.now)) }
 {
-    if let (Request::Count(asked), Answered::Counted(printed, _)) = (request, answered) {
-        if printed.report.totals.files == 0 {
-            if let Ok(text) = meant_lines(alloc, &asked.walk.filters.include) {
-                tell(&text, err);
-            }
-        }
+    if files == 0 {
+        meant_lines(alloc, patterns)
+    } else {
+        Ok(String::new(alloc))
     }
 }

@@ -1,148 +1,25 @@
 //! Runs the program: carries out the request of the arguments with the directories and files of a `System`. Reads the input stream, and
 //! writes to the other two.
 
-ghost use Rattle.std.specs.Prelude.{◌≡◌, ◌&&◌, map, nat_lt};
-ghost use Rattle.lc_program.specs.Program.{Comments, Ends, EndsTyped, TellsRefused, TellsUnread, status_of, streams_may};
-ghost use Rattle.lc_program.specs.Replies.{ending_of, has_failure};
+ghost use Rattle.std.specs.Prelude.{◌≡◌, map};
+ghost use Rattle.lc_program.specs.Program.{Ends, EndsTyped, status_of, streams_may};
 ghost use Rattle.lc_program.specs.Systems.{may_of};
 ghost use Rattle.lc_program.specs.declared.ending.Ending.{Ending};
 
-use crate::answered::Answered;
 use crate::answering::answer;
 use crate::cause::Cause;
 use crate::ending::Ending;
-use crate::faults::tell_faults;
-use crate::hints::hint;
 use crate::introducing::introduce;
-use crate::meant::tell_meant;
-use crate::side_faults::{SideFaults, tell_side_faults};
 use crate::streams::{Streams, Terminals};
 use crate::system::System;
 use crate::telling::{give_up, misuse, show, tell};
 use crate::typed::read_as;
-use crate::unlisted::tell_unlisted;
-use crate::unmatched::unmatched_in;
-use crate::unnamed::tell_remarks;
 use lc_arguments::{ParseExit, Request};
 use lc_io::{Sink, Source};
-use lc_paths::Outcome;
-use lc_sheet::Format;
-use lc_walk::Report;
 use std::alloc::{AllocError, Global};
 use std::convert::AsStr;
 use std::sync::Wait;
 use std::thread::Threads;
-
-/// Writes to standard error what a count, a sum, a comparison or an explanation could not read. `format` is the format of a table if the
-/// command line names none.
-fn tell_unread<Y: System, E: Sink>(
-    alloc: Global,
-    system: &Y,
-    request: &Request<'_>,
-    answered: &Answered,
-    format: Format,
-    err: &mut E,
-)
-    ensures { TellsUnread E.may_take (Y.unlists system.now) format request.now answered.now err.old err.new }
-{
-    match (request, answered) {
-        (Request::Count(asked), Answered::Counted(printed, _)) => {
-            tell_faults(
-                alloc,
-                system,
-                &asked.directories,
-                asked.table.output(format),
-                &printed.report.faults,
-                err,
-            );
-        }
-        (Request::Sum(asked), Answered::Summed(printed)) => {
-            let output = asked.table.output(format);
-            tell_faults(alloc, system, &[], output, &printed.report.faults, err);
-        }
-        (Request::Diff(asked), Answered::Compared(compared, _)) => {
-            let old = SideFaults {
-                name: asked.old,
-                faults: &compared.old.faults,
-            };
-            let new = SideFaults {
-                name: asked.new,
-                faults: &compared.new.faults,
-            };
-            tell_side_faults(alloc, old, new, err);
-        }
-        (Request::Explain(asked), Answered::Explained(Outcome::SomeFaults)) => {
-            tell_unlisted(alloc, system, asked.directory, err);
-        }
-        _ => {}
-    }
-}
-
-/// Writes to standard error the lines about paths that the text lacks.
-fn tell_refused<E: Sink>(answered: &Answered, err: &mut E)
-    ensures { TellsRefused E.may_take answered.now err.old err.new }
-{
-    if let Answered::Counted(printed, _) | Answered::Summed(printed) = answered {
-        tell(&printed.refused, err);
-    }
-}
-
-/// Writes to standard error what could not be read, which paths the text lacks, and which options had no effect, but for
-/// patterns that can match nothing.
-fn comment<Y: System, E: Sink>(
-    alloc: Global,
-    system: &Y,
-    request: &Request<'_>,
-    answered: &Answered,
-    terminals: Terminals,
-    err: &mut E,
-)
-    ensures { Comments E.may_take (Y.unlists system.now) terminals request.now answered.now err.old err.new }
-{
-    tell_unread(alloc, system, request, answered, terminals.format(), err);
-    tell_refused(answered, err);
-    tell_remarks(answered, err);
-    tell_meant(alloc, request, answered, err);
-}
-
-/// Returns whether `fail_if_any` is set and the printed report has a file.
-fn is_failure(fail_if_any: bool, report: &Report) -> bool
-    ensures { result ≡ (fail_if_any && nat_lt 0 report.now.totals.files) }
-{
-    fail_if_any && report.totals.files > 0
-}
-
-/// Returns whether `--fail-if-any` makes an answer a failure: a counted file meets the conditions of `--where`, or the sides of a
-/// comparison differ.
-fn has_failure(request: &Request<'_>, answered: &Answered) -> bool
-    ensures { result ≡ has_failure request.now answered.now }
-{
-    match (request, answered) {
-        (Request::Count(asked), Answered::Counted(printed, _)) => {
-            is_failure(asked.fail_if_any, &printed.report)
-        }
-        (Request::Sum(asked), Answered::Summed(printed)) => {
-            is_failure(asked.fail_if_any, &printed.report)
-        }
-        (Request::Diff(asked), Answered::Compared(compared, _)) => {
-            asked.fail_if_any && compared.differ
-        }
-        _ => false,
-    }
-}
-
-/// Returns how the program ends after it wrote this answer to a request.
-fn ending_of(request: &Request<'_>, answered: &Answered) -> Ending
-    ensures { result ≡ ending_of request.now answered.now }
-{
-    if has_failure(request, answered) {
-        return Ending::AnyFile;
-    }
-    match answered.outcome() {
-        Outcome::Clean => Ending::Done,
-        Outcome::SomeFaults => Ending::SomeFaults,
-    }
-}
 
 /// Runs the program with the arguments that it reads, and returns how it ended.
 fn end_of<R: Threads + Wait + Sync + AllocGlobal, Y: System, W: AsStr, S: Source, O: Sink, E: Sink>(
@@ -162,18 +39,13 @@ fn end_of<R: Threads + Wait + Sync + AllocGlobal, Y: System, W: AsStr, S: Source
         Err(ParseExit::Refused(why)) => return misuse(&why, err),
         Err(ParseExit::Memory) => return give_up(rt.alloc(), Cause::Memory, err),
     };
-    let Ok(unmatched) = unmatched_in(rt.alloc(), &request) else {
-        return give_up(rt.alloc(), Cause::Memory, err);
-    };
     introduce(&request, terminals.input, err);
     let answered = match answer(rt, system, &request, terminals, input, out) {
         Ok(answered) => answered,
         Err(cause) => return give_up(rt.alloc(), cause, err),
     };
-    comment(rt.alloc(), system, &request, &answered, terminals, err);
-    tell(&unmatched, err);
-    hint(rt.alloc(), system, &request, terminals.error, err);
-    ending_of(&request, &answered)
+    tell(&answered.told, err);
+    answered.ending()
 }
 
 /// Runs the program with the arguments `typed`, and returns the exit status. The status is 0 for success, and 1 if the answer was written

@@ -1,13 +1,15 @@
 //! A run: the walk of a tree, and the table of its report.
 
-ghost use Rattle.std.specs.Prelude.{◌≡◌};
+ghost use Rattle.std.specs.Prelude.{◌≡◌, string_bytes};
 ghost use Rattle.lc_walk.specs.WalkOptions.{AreWithinLimits};
 ghost use Rattle.lc_walk.specs.Walks.{Walks};
+ghost use Rattle.lc_program.specs.Replies.{printed_answer};
 ghost use Rattle.lc_program.specs.ReportTexts.{showing_of};
 ghost use Rattle.lc_program.specs.Runs.{AnswersRun, table_fault};
 ghost use Rattle.lc_rows.specs.WalkedReports.{ListsFilesFor};
 ghost use Rattle.lc_program.specs.declared.runs.RunFault.TheVariants.{Walk};
 
+use crate::answer::Answer;
 use crate::showing::table;
 use lc_io::{PrintFault, Sink};
 use lc_sheet::ReportOptions;
@@ -39,6 +41,19 @@ pub struct Printed {
     pub report: Report,
     /// An error line for each path that the output `Paths` lacks: without `-0`, each path with a line feed.
     pub refused: String,
+}
+
+impl Printed {
+    /// Returns what is known of the answer whose table this is, with these lines for standard error.
+    pub(crate) fn answer(&self, fail_if_any: bool, told: String) -> Answer
+        ensures { result ≡ printed_answer fail_if_any self.now.report (string_bytes self.now.refused) (string_bytes told) }
+    {
+        Answer {
+            has_faults: !self.report.faults.is_empty() || !self.refused.is_empty(),
+            fails: fail_if_any && self.report.totals.files > 0,
+            told,
+        }
+    }
 }
 
 impl From<WalkFault> for RunFault {

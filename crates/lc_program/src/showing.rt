@@ -106,7 +106,7 @@ pub fn report_text(
 }
 
 /// Drops from a report the files that do not meet the conditions, and makes the text of the remaining report ([`report_text`]).
-fn part_text(
+pub(crate) fn part_text(
     alloc: Global,
     report: &mut Report,
     shown: ReportOptions<'_>,

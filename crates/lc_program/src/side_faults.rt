@@ -1,13 +1,10 @@
 //! The lines on standard error about paths that could not be read on either side of a comparison.
 
 ghost use Rattle.std.specs.Prelude.{◌≡◌, ◌++◌, string_bytes, IfOk, OnOk};
-ghost use Rattle.lc_program.specs.ReportLines.{origin_of};
-ghost use Rattle.lc_program.specs.SideFaults.{TellsSideFaults, fault_line, have_no_faults, side_lines};
+ghost use Rattle.lc_program.specs.SideFaults.{fault_line, lines_of, side_lines};
 
 use crate::faults::or_here;
 use crate::report_lines::origin_of;
-use crate::unlisted::tell_shortly;
-use lc_io::{Sink, print};
 use lc_text::push_visible;
 use lc_walk::FaultLine;
 use std::alloc::{AllocError, Global};
@@ -43,40 +40,18 @@ fn side_lines(alloc: Global, name: &str, faults: &[FaultLine]) -> Result<String,
     Ok(text)
 }
 
-/// Makes a line for each path that could not be read, first the paths of the old side, and then the paths of the new side.
-fn lines_of(alloc: Global, old: SideFaults<'_>, new: SideFaults<'_>) -> Result<String, AllocError>
-    ensures { IfOk result (λ text. string_bytes text ≡ side_lines (origin_of old.entry.name.now) old.entry.faults.now
-        ++ side_lines (origin_of new.entry.name.now) new.entry.faults.now) }
+/// Makes a line for each path of a comparison's sides that could not be read, first the paths of the old side, and then those of the new
+/// side. No format of the output lists them.
+pub(crate) fn lines_of(
+    alloc: Global,
+    old: SideFaults<'_>,
+    new: SideFaults<'_>,
+) -> Result<String, AllocError>
+    ensures { IfOk result (λ text. string_bytes text
+        ≡ lines_of old.entry.name.now old.entry.faults.now new.entry.name.now new.entry.faults.now) }
 {
     let mut text = side_lines(alloc, origin_of(old.name), old.faults)?;
     let more = side_lines(alloc, origin_of(new.name), new.faults)?;
     text.push_str(&more)?;
     Ok(text)
-}
-
-fn have_no_faults(old: &[FaultLine], new: &[FaultLine]) -> bool
-    ensures { result ≡ have_no_faults old.now new.now }
-{
-    old.is_empty() && new.is_empty()
-}
-
-/// Writes to standard error which paths of a comparison's sides could not be read, the old side first. No format of the output lists them.
-pub(crate) fn tell_side_faults<E: Sink>(
-    alloc: Global,
-    old: SideFaults<'_>,
-    new: SideFaults<'_>,
-    err: &mut E,
-)
-    ensures { TellsSideFaults E.may_take old.entry.name.now old.entry.faults.now new.entry.name.now new.entry.faults.now err.old err.new }
-{
-    if have_no_faults(old.faults, new.faults) {
-        return;
-    }
-    match lines_of(alloc, old, new) {
-        // Nothing depends on the lines, so a line that can't be written changes nothing.
-        Ok(text) => {
-            let _ = print(err, text.as_bytes());
-        }
-        Err(AllocError) => tell_shortly(err),
-    }
 }

@@ -1,7 +1,7 @@
 //! The sides of a comparison: directories that are counted, and reports that are read.
 
 ghost use Rattle.std.specs.Prelude.{◌≡◌, true, IfOk};
-ghost use Rattle.lc_program.specs.Sides.{CountsSide, GivesSide, GivesSides, IsSide, ReadsSide, is_no_directory};
+ghost use Rattle.lc_program.specs.Sides.{CountsSide, GivesSide, GivesSides, IsSide, ReadsSide, side_by};
 ghost use Rattle.lc_program.specs.Systems.{may_of};
 ghost use Rattle.lc_walk.specs.WalkOptions.{AreWithinLimits};
 
@@ -22,30 +22,41 @@ use std::alloc::{AllocError, Global};
 use std::sync::Wait;
 use std::thread::Threads;
 
-/// Returns whether a name can't be listed for the reason that no directory has this name.
-fn is_no_directory(why: Option<UnreadReason>) -> bool
-    ensures { result ≡ is_no_directory why }
-{
-    match why {
-        None | Some(UnreadReason::Denied | UnreadReason::IsDirectory | UnreadReason::Other) =>
-            false,
-        Some(UnreadReason::Missing | UnreadReason::IsFile | UnreadReason::NotDirectory) => true,
-    }
+/// What a side of a comparison is.
+#[derive(Clone, Copy)]
+pub(crate) enum Side {
+    /// A directory, which is counted.
+    Directory,
+    /// Standard input, or a name that is no directory's: reports are read.
+    Report,
+    /// A name that nothing has.
+    Missing,
 }
 
-/// Queries the system, and returns whether a side of a comparison is a directory. The side `-` is standard input.
-pub(crate) fn is_directory<Y: System>(
-    alloc: Global,
-    system: &Y,
-    name: &str,
-) -> Result<bool, AllocError>
-    ensures { IfOk result (IsSide (Y.unlists system.now) name.now) }
-{
-    if name == "-" {
-        return Ok(false);
+impl Side {
+    /// Returns what a side is if a directory of its name can't be listed for this reason, or can.
+    fn by_reason(why: Option<UnreadReason>) -> Side
+        ensures { result ≡ side_by why }
+    {
+        match why {
+            None | Some(UnreadReason::Denied | UnreadReason::IsDirectory | UnreadReason::Other) => {
+                Side::Directory
+            }
+            Some(UnreadReason::IsFile | UnreadReason::NotDirectory) => Side::Report,
+            Some(UnreadReason::Missing) => Side::Missing,
+        }
     }
-    let why = system.why_unlisted(alloc, name)?;
-    Ok(!is_no_directory(why))
+
+    /// Queries the system, and returns what the side with this name is. The side `-` is standard input.
+    pub(crate) fn of<Y: System>(alloc: Global, system: &Y, name: &str) -> Result<Side, AllocError>
+        ensures { IfOk result (IsSide (Y.unlists system.now) name.now) }
+    {
+        if name == "-" {
+            return Ok(Side::Report);
+        }
+        let why = system.why_unlisted(alloc, name)?;
+        Ok(Side::by_reason(why))
+    }
 }
 
 /// How the sides of a comparison are counted or read.
@@ -112,9 +123,10 @@ fn read_side<Y: System, S: Source>(
 }
 
 /// Counts a side that is a directory, and reads any other side as reports.
-fn side<R: Threads + Wait + Sync + AllocGlobal, Y: System, S: Source>(
+fn report_of<R: Threads + Wait + Sync + AllocGlobal, Y: System, S: Source>(
     rt: &R,
     system: &Y,
+    side: Side,
     name: &str,
     how: SideOptions<'_>,
     input: &mut S,
@@ -123,19 +135,20 @@ fn side<R: Threads + Wait + Sync + AllocGlobal, Y: System, S: Source>(
     requires lists { how.options.now.lists.files ≡ how.needs.files }
     ensures gives { GivesSide (may_of Y.Tree.Tree Y.System system.now)
         S.may_give how.entry.walk.now how.entry.options.now how.entry.attributes.now
-        how.entry.needs name.now input.old result input.new }
+        how.entry.needs side name.now input.old result input.new }
     ensures files { IfOk result (λ report. how.entry.needs.files ≡ true → report.lists.files ≡ true) }
 {
-    if is_directory(rt.alloc(), system, name)? {
-        return counted_side(rt, system, name, how);
+    match side {
+        Side::Directory => counted_side(rt, system, name, how),
+        Side::Report | Side::Missing => read_side(rt.alloc(), system, name, how, input),
     }
-    read_side(rt.alloc(), system, name, how, input)
 }
 
 /// Counts or reads both sides of a comparison, the old side first.
 pub(crate) fn both_sides<R: Threads + Wait + Sync + AllocGlobal, Y: System, S: Source>(
     rt: &R,
     system: &Y,
+    sides: (Side, Side),
     names: (&str, &str),
     how: SideOptions<'_>,
     input: &mut S,
@@ -144,10 +157,10 @@ pub(crate) fn both_sides<R: Threads + Wait + Sync + AllocGlobal, Y: System, S: S
     requires lists { how.options.now.lists.files ≡ how.needs.files }
     ensures gives { GivesSides (may_of Y.Tree.Tree Y.System system.now)
         S.may_give how.entry.walk.now how.entry.options.now how.entry.attributes.now
-        how.entry.needs names.entry.0.now names.entry.1.now input.old result input.new }
+        how.entry.needs sides names.entry.0.now names.entry.1.now input.old result input.new }
     ensures files { IfOk result (λ both. how.entry.needs.files ≡ true → (both.0.lists.files ≡ true) × (both.1.lists.files ≡ true)) }
 {
-    let old = side(rt, system, names.0, how, input)?;
-    let new = side(rt, system, names.1, how, input)?;
+    let old = report_of(rt, system, sides.0, names.0, how, input)?;
+    let new = report_of(rt, system, sides.1, names.1, how, input)?;
     Ok((old, new))
 }

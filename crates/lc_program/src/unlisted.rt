@@ -1,14 +1,10 @@
 //! The lines on standard error about a directory that could not be read, and the reason.
 
 ghost use Rattle.std.specs.Prelude.{◌≡◌, string_bytes, IfOk};
-ghost use Rattle.lc_program.specs.Reasons.{count_instead, reason_given, uncounted_line, unexplained_line};
-ghost use Rattle.lc_program.specs.Tellings.{Tells};
-ghost use Rattle.lc_program.specs.Unlisted.{TellsUnlisted, TellsWhy, short_line};
+ghost use Rattle.lc_program.specs.Reasons.{count_instead, reason_given, uncounted_line, unexplained_line, why_line};
 
 use crate::commands::file_count;
-use crate::system::System;
 use crate::unread_reason::UnreadReason;
-use lc_io::{Sink, print};
 use lc_text::push_visible;
 use std::alloc::{AllocError, Global};
 
@@ -64,40 +60,16 @@ pub(crate) fn unexplained_line(
     Ok(text)
 }
 
-/// Writes to standard error that some paths could not be read. This line names no path, so it needs no memory.
-pub(crate) fn tell_shortly<E: Sink>(err: &mut E)
-    ensures { Tells E.may_take err.old short_line err.new }
-{
-    // The answer and the exit status show the error too, so a line that can't be written changes nothing.
-    let _ = print(err, b"lc: some paths could not be read\n");
-}
-
-fn tell_why<E: Sink>(alloc: Global, directory: &str, why: Option<UnreadReason>, err: &mut E)
-    ensures { TellsWhy E.may_take directory.now why err.old err.new }
-{
-    let Some(_reason) = why else {
-        return;
-    };
-    match unexplained_line(alloc, directory, why) {
-        // The answer shows the error too, so a line that can't be written changes nothing.
-        Ok(text) => {
-            let _ = print(err, text.as_bytes());
-        }
-        Err(AllocError) => tell_shortly(err),
-    }
-}
-
-/// Writes to standard error why the directory of an explanation could not be read, if the system gives a reason.
-pub(crate) fn tell_unlisted<Y: System, E: Sink>(
+/// Makes the line that says why the directory of an explanation could not be read. The line is empty if the system gives no reason.
+pub(crate) fn why_line(
     alloc: Global,
-    system: &Y,
     directory: &str,
-    err: &mut E,
-)
-    ensures { TellsUnlisted E.may_take (Y.unlists system.now) directory.now err.old err.new }
+    why: Option<UnreadReason>,
+) -> Result<String, AllocError>
+    ensures { IfOk result (λ text. string_bytes text ≡ why_line directory.now why) }
 {
-    match system.why_unlisted(alloc, directory) {
-        Ok(why) => tell_why(alloc, directory, why, err),
-        Err(AllocError) => tell_shortly(err),
+    match why {
+        Some(_) => unexplained_line(alloc, directory, why),
+        None => Ok(String::new(alloc)),
     }
 }

@@ -1,9 +1,9 @@
 //! The lines on standard error about patterns that can match nothing.
 
 ghost use Rattle.std.specs.Prelude.{◌≡◌, string_bytes, IfOk};
-ghost use Rattle.lc_program.specs.Unmatched.{unmatched_in, unmatched_line, unmatched_lines, unmatched_of, unmatched_text};
+ghost use Rattle.lc_program.specs.Unmatched.{unmatched_line, unmatched_lines, unmatched_of, unmatched_text};
 
-use lc_arguments::{FilterRequest, Request};
+use lc_arguments::FilterRequest;
 use lc_rules::can_match;
 use lc_text::push_visible;
 use std::alloc::{AllocError, Global};
@@ -40,25 +40,12 @@ fn unmatched_lines(alloc: Global, patterns: &[&str]) -> Result<String, AllocErro
     Ok(text)
 }
 
-fn unmatched_of(alloc: Global, asked: &FilterRequest<'_>) -> Result<String, AllocError>
+/// Makes a line for each pattern of `--exclude` and `--include` that can match nothing.
+pub(crate) fn unmatched_of(alloc: Global, asked: &FilterRequest<'_>) -> Result<String, AllocError>
     ensures { IfOk result (λ text. string_bytes text ≡ unmatched_of asked.now) }
 {
     let mut text = unmatched_lines(alloc, &asked.exclude)?;
     let included = unmatched_lines(alloc, &asked.include)?;
     text.push_str(&included)?;
     Ok(text)
-}
-
-/// Makes a line for each pattern of a request's `--exclude` and `--include` that can match nothing.
-pub(crate) fn unmatched_in(alloc: Global, request: &Request<'_>) -> Result<String, AllocError>
-    ensures { IfOk result (λ text. string_bytes text ≡ unmatched_in request.now) }
-{
-    match request {
-        Request::Count(asked) => unmatched_of(alloc, &asked.walk.filters),
-        Request::Diff(asked) => unmatched_of(alloc, &asked.walk.filters),
-        Request::Explain(asked) => unmatched_of(alloc, &asked.filters),
-        Request::CheckJoined | Request::Check(_) | Request::Languages | Request::Sum(_) => {
-            Ok(String::new(alloc))
-        }
-    }
 }

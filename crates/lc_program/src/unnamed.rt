@@ -2,12 +2,8 @@
 
 ghost use Rattle.std.specs.Prelude.{◌≡◌, ◌++◌, string_bytes, IfOk, OnOk};
 ghost use Rattle.lc_level.specs.NamedAttributes.{noted};
-ghost use Rattle.lc_program.specs.Program.{TellsBoth, TellsRemarks};
-ghost use Rattle.lc_program.specs.Unnamed.{AreUnnamedLines, unnamed_line, unnamed_lines_of};
+ghost use Rattle.lc_program.specs.Unnamed.{AreRemarks, AreUnnamedLines, names_in, unnamed_line, unnamed_lines_of};
 
-use crate::answered::{Answered, Remarks};
-use crate::telling::tell;
-use lc_io::Sink;
 use lc_level::NamedAttributes;
 use lc_text::push_visible;
 use std::alloc::{AllocError, Global};
@@ -31,7 +27,8 @@ fn lines_of(alloc: Global, attributes: &[Vec<u8>]) -> Result<String, AllocError>
     Ok(text)
 }
 
-fn unnamed_text(alloc: Global, named: &NamedAttributes) -> Result<String, AllocError>
+/// Makes a line for each attribute of the command line that no attribute file names.
+fn unnamed_lines(alloc: Global, named: &NamedAttributes) -> Result<String, AllocError>
     ensures { IfOk result (λ text. AreUnnamedLines (noted named.now) (string_bytes text)) }
 {
     let attributes = named.unnamed(alloc)?;
@@ -39,32 +36,25 @@ fn unnamed_text(alloc: Global, named: &NamedAttributes) -> Result<String, AllocE
     Ok(text)
 }
 
-/// Makes a line for each attribute of the command line that no attribute file names. If there is no memory for the lines, the text is
-/// empty, since nothing depends on it.
-pub(crate) fn unnamed_lines(alloc: Global, named: &NamedAttributes) -> String
-    ensures { AreUnnamedLines (noted named.now) (string_bytes result) }
-{
-    match unnamed_text(alloc, named) {
-        Ok(text) => text,
-        Err(AllocError) => String::new(alloc),
-    }
+/// What there is to say of the options of a walk.
+#[derive(Clone, Copy)]
+pub(crate) struct WalkRemarks<'r> {
+    /// The line that says that the file of `--only-from` has no path, if nothing is counted for this reason. Otherwise the text is empty.
+    pub(crate) emptied: &'r str,
+    /// The attributes of the command line, and which of them an attribute file names. `None` if no directory was walked.
+    pub(crate) named: Option<&'r NamedAttributes>,
 }
 
-/// Writes to standard error that a list has no path, and which attributes no attribute file names.
-fn tell_both<E: Sink>(remarks: &Remarks, err: &mut E)
-    ensures { TellsBoth E.may_take remarks.now err.old err.new }
-{
-    tell(&remarks.emptied, err);
-    tell(&remarks.unnamed, err);
-}
-
-/// Writes to standard error what there is to say of the options, if the answer is a count or a comparison.
-pub(crate) fn tell_remarks<E: Sink>(answered: &Answered, err: &mut E)
-    ensures { TellsRemarks E.may_take answered.now err.old err.new }
-{
-    match answered {
-        Answered::Counted(_, remarks) => tell_both(remarks, err),
-        Answered::Compared(_, remarks) => tell_both(remarks, err),
-        _ => {}
+impl<'r> WalkRemarks<'r> {
+    /// Makes the lines: that of a list without paths, and one for each attribute of the command line that no attribute file names.
+    pub(crate) fn lines(self, alloc: Global) -> Result<String, AllocError>
+        ensures { IfOk result (λ text. AreRemarks self.entry.emptied.now (names_in self.entry.named) (string_bytes text)) }
+    {
+        let unnamed = match self.named {
+            Some(named) => unnamed_lines(alloc, named)?,
+            None => String::new(alloc),
+        };
+        let text = [self.emptied, unnamed.as_str()].concat(alloc)?;
+        Ok(text)
     }
 }

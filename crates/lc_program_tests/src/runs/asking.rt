@@ -73,12 +73,9 @@ fn writer_of(alloc: Global, text: &[u8]) -> Result<Narrow, AllocError> {
     Narrow::new(alloc, 4_096, text.len().saturating_add(64), WhenFull::Fails)
 }
 
-/// Returns whether standard error shows that an allocation failed: a part of the wanted text is missing, or another line is in its place.
+/// Returns whether standard error shows that an allocation failed: it says so, or lacks a hint.
 fn is_refusal(told: &[u8], wanted: &[u8]) -> bool {
     told.ends_with(b"lc: out of memory\n")
-        // Lines about patterns may follow it.
-        || told.starts_with(b"lc: some paths could not be read\n")
-        || told.ends_with(b"lc: rules above this directory were not read\n")
         // A system without memory may know of no repository. So the hint is missing, or its command has fewer of several directories.
         || (told.len() < wanted.len()
             && (wanted.starts_with(told) || told.ends_with(b" reads them\n")))

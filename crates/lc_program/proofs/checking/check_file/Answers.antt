@@ -1,4 +1,4 @@
-use Rattle.std.proofs.Common.{ap, inl, sym}
+use Rattle.std.proofs.Common.{◌∙◌, Ok, ap, inl, sym}
 use Rattle.lc_program.proofs.Loading.{fault_replied}
 use Rattle.lc_program.specs.Replies.{checked}
 use Rattle.lc_program.proofs.checking.check_file.Goals as goal
@@ -31,7 +31,7 @@ returns-then-asked g c =
       _,
       c.in_ok-text.ensures,
       c.check_explained.result,
-      sym (ap checked c.in_ok-check_explained.was),
+      ap Ok c.clean.ensures ∙ sym (ap checked c.in_ok-check_explained.was),
       rw (c.as_bytes.ensures.value, c.path_end.ensures) at c.check_explained.ensures,
     ))
 
@@ -41,6 +41,6 @@ returns g c =
       _,
       c.in_ok-text.ensures,
       c.check.result,
-      sym (ap checked c.in_ok-check.was),
+      ap Ok c.clean-2.ensures ∙ sym (ap checked c.in_ok-check.was),
       rw (c.rules.ensures, c.path_end.ensures) at c.check.ensures,
     ))

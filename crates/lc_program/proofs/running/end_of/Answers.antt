@@ -1,6 +1,6 @@
-use Rattle.std.proofs.Common.{◌∙◌, ℕ, List, inl, inr, map, refl, string_bytes, subst, sym}
+use Rattle.std.proofs.Common.{inl, inr, map, refl, string_bytes, subst, sym}
 use Rattle.lc_arguments.specs.{Naming.{IsNamingError, IsTextOf, named_command}, Refusals.IsMessage}
-use Rattle.lc_program.specs.Tellings.{Tells}
+use Rattle.lc_program.specs.{Replies.AnswerModel, Tellings.Tells}
 use Rattle.lc_program.proofs.Endings.{ends_answered, ends_shown}
 use Rattle.lc_program.proofs.running.end_of.Goals as goal
 
@@ -36,10 +36,6 @@ returns-in-Err-Shown g c =
 pub returns-in-Err-Memory : goal.returns-in-Err-Memory
 returns-in-Err-Memory g c = rw c.give_up.ensures.ending (inr (inr (refl, refl, refl, c.give_up.ensures.told)))
 
-pub returns-in_default : goal.returns-in_default
-returns-in_default g c =
-    rw c.give_up-in_default.ensures.ending (inr (inr (refl, refl, refl, c.give_up-in_default.ensures.told)))
-
 pub returns-in-Err-Refused : goal.returns-in-Err-Refused
 returns-in-Err-Refused g c =
     rw c.misuse.ensures.ending (
@@ -60,7 +56,7 @@ returns-in-Err-Refused g c =
 
 pub returns : goal.returns
 returns g c =
-    rw c.ending_of.ensures (ends_answered _ _ _ _ _ _ _ _ (
+    rw c.ending.ensures (ends_answered _ _ _ _ _ _ _ _ (
       c.in-Ok.request,
       c.in-Ok-answer.answered,
       c.introduce.new.err,
@@ -71,14 +67,6 @@ returns g c =
         answers = c.in-Ok-answer.ensures;
       },
       refl,
-      (
-        c.comment.new.err,
-        c.comment.ensures,
-        (
-          c.tell.new.err,
-          subst (λ (lines : List ℕ). Tells g.E.Sink.may_take c.comment.new.err lines c.tell.new.err)
-              (c.deref-2.ensures ∙ c.in-Ok-unmatched_in.ensures) c.tell.ensures,
-          c.hint.ensures,
-        ),
-      ),
+      subst (λ (a : AnswerModel). Tells g.E.Sink.may_take c.introduce.new.err a.told c.tell.new.err) c.answered.view_is
+          (rw c.deref-2.ensures at c.tell.ensures),
     ))

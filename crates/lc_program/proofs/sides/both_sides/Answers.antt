@@ -7,7 +7,8 @@ returns-in_err-old-clause-gives g c =
     let system = c.args.system.now in
     let may : SystemMay = may_of g.Y.Tree.Tree g.Y.System system in
     old_missing may g.S.Source.may_give c.args.how.walk.now c.args.how.options.now c.args.how.attributes.now
-    c.args.how.needs c.args.names.0.now c.args.names.1.now c.args.input.now c.side.new.input c.from_residual.result c.in_err-old.field-0.0
+    c.args.how.needs c.args.sides c.args.names.0.now c.args.names.1.now c.args.input.now c.report_of.new.input c.from_residual.result
+    c.in_err-old.field-0.0
     c.from_residual.ensures.1 c.in_err-old.ensures.gives
 
 pub returns-in_err-new-clause-gives : goal.returns-in_err-new-clause-gives
@@ -15,6 +16,6 @@ returns-in_err-new-clause-gives g c =
     let system = c.args.system.now in
     let may : SystemMay = may_of g.Y.Tree.Tree g.Y.System system in
     new_missing may g.S.Source.may_give c.args.how.walk.now c.args.how.options.now c.args.how.attributes.now
-    c.args.how.needs c.args.names.0.now c.args.names.1.now c.args.input.now c.side-2.new.input c.from_residual-in_err-new.result
-    c.in_err-new.field-0.0 c.in_ok-old.old c.side.new.input
+    c.args.how.needs c.args.sides c.args.names.0.now c.args.names.1.now c.args.input.now c.report_of-2.new.input
+    c.from_residual-in_err-new.result c.in_err-new.field-0.0 c.in_ok-old.old c.report_of.new.input
     c.from_residual-in_err-new.ensures.1 c.in_ok-old.ensures.gives c.in_err-new.ensures.gives

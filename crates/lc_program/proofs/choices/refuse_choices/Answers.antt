@@ -1,7 +1,0 @@
-use Rattle.std.proofs.Common.{rules}
-use Rattle.lc_program.proofs.choices.refuse_choices.Goals as goal
-
-pub returns : goal.returns
-returns g c =
-    let told = c.cause_with.ensures _ c.choice_line.ensures in
-    search (rules, told)
