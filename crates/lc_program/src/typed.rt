@@ -4,11 +4,13 @@ ghost use Rattle.std.specs.Prelude.{IfOk, map};
 ghost use Rattle.lc_program.specs.Typed.{AreReadAs, Begins};
 
 use crate::system::System;
+use crate::unread_reason::UnreadReason;
 use lc_arguments::may_be_directory;
 use std::alloc::{AllocError, Global};
 use std::convert::AsStr;
 
-/// Returns whether the first argument is a directory that begins a count. A word that can be none costs no call of the system.
+/// Returns whether the first argument is a directory that begins a count, even if it may not be listed. A word that can be none costs no
+/// call of the system.
 fn begins_with_directory<Y: System, W: AsStr>(
     alloc: Global,
     system: &Y,
@@ -23,7 +25,7 @@ fn begins_with_directory<Y: System, W: AsStr>(
         return Ok(false);
     }
     let why = system.why_unlisted(alloc, first.as_str())?;
-    Ok(why.is_none())
+    Ok(matches!(why, None | Some(UnreadReason::Denied)))
 }
 
 /// Returns the arguments as they were typed, or after the word `count` if the first argument is a directory that begins a count.
