@@ -22,17 +22,12 @@ use Rattle.lc_walk.specs.declared.{options.{Options.Options, ReportLists.ReportL
 abbrev pub compared_columns : TableRequest → Columns
 compared_columns s = unwrap_or s.by (record { dir = None; attributes = 0; ext = true; text = false; eol = false })
 
--- the order of a comparison's rows: the one that the command line names, or else the largest changes of lines first if the text is for
--- reading, and by name otherwise
-abbrev pub change_order : Output → TableRequest → Order
-change_order output s = unwrap_or s.sort (cond (is_for_reading output) (Largest Lines) Name)
-
--- the options of a comparison, with this format if the command line names none
+-- the options of a comparison, with this format if the command line names none. Its rows are in the order of a count's rows
 abbrev pub change_options : Format → DiffRequest → ChangeOptions
 change_options other d = record {
   format = sheet_format (output_in other d.table);
   by = compared_columns d.table;
-  sort = number_of (change_order (output_in other d.table) d.table);
+  sort = number_of (order_in (output_in other d.table) d.table);
   top = d.table.top;
   files = d.table.files;
   all = d.all;

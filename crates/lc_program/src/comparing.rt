@@ -1,12 +1,11 @@
 //! Answers `lc diff`: compares two directories or reports, and prints the changes.
 
 ghost use Rattle.std.specs.Prelude.{◌≡◌, string_bytes, true, IfOk};
-ghost use Rattle.lc_arguments.specs.TableWords.{number_of};
 ghost use Rattle.lc_arguments.specs.Words.{IsDiffWithinLimits};
 ghost use Rattle.lc_changes.specs.ChangeSheets.{HasFilesFor};
 ghost use Rattle.lc_level.specs.NamedAttributes.{noted};
 ghost use Rattle.lc_program.specs.Differences.{AnswersDiff, AreDiffLines, IsChangesText, PrintsChanges, PrintsSides};
-ghost use Rattle.lc_program.specs.Differences.{change_options, change_order, compared_columns, compared_lists, compared_needs};
+ghost use Rattle.lc_program.specs.Differences.{change_options, compared_columns, compared_lists, compared_needs};
 ghost use Rattle.lc_program.specs.Differences.{diff_answer, names_for};
 ghost use Rattle.lc_program.specs.{Systems.may_of, Unnamed.names_in};
 
@@ -29,7 +28,7 @@ use lc_io::{Sink, Source};
 use lc_level::NamedAttributes;
 use lc_reports::Needs;
 use lc_rows::keep;
-use lc_sheet::{AttributeColumn, Columns, Format, Number, Order, Output};
+use lc_sheet::{AttributeColumn, Columns, Format};
 use lc_walk::{Report, ReportLists};
 use std::alloc::{AllocError, Global};
 use std::sync::Wait;
@@ -47,28 +46,15 @@ fn compared_columns(table: TableRequest) -> Columns
     table.by.unwrap_or(BY_EXTENSION)
 }
 
-/// Returns the number whose largest changes come first, if rows are sorted by a number.
-fn sort_number(output: Output, table: TableRequest) -> Option<Number>
-    ensures { result ≡ number_of (change_order output table) }
-{
-    match table.sort {
-        Some(Order::Largest(number)) => Some(number),
-        Some(Order::Name) => None,
-        None if output.is_for_reading() => Some(Number::Lines),
-        None => None,
-    }
-}
-
 /// Returns the options of a comparison. `other` is the format if the command line names none.
 fn change_options(asked: &DiffRequest<'_>, other: Format) -> ChangeOptions
     ensures { result ≡ change_options other asked.now }
 {
-    let by = compared_columns(asked.table);
-    let output = asked.table.output(other);
+    let shown = asked.table.options(other, BY_EXTENSION);
     ChangeOptions {
-        format: output.sheet_format(),
-        by,
-        sort: sort_number(output, asked.table),
+        format: shown.output.sheet_format(),
+        by: compared_columns(asked.table),
+        sort: shown.sort,
         top: asked.table.top,
         files: asked.table.files,
         all: asked.all,
