@@ -24,7 +24,7 @@ _lc_options() {
   esac
 }
 
-# Completes the value of option $1, of which $2 is typed, and fails if it has none.
+# Completes the value of option $1 of command $3, of which $2 is typed, and fails if it has none.
 _lc_value() {
   case $1 in
     --exclude) ;;
@@ -34,8 +34,19 @@ _lc_value() {
     --attributes-from) mapfile -t COMPREPLY < <(compgen -f -- "$2") ;;
     --only) mapfile -t COMPREPLY < <(compgen -f -- "$2") ;;
     --only-from) mapfile -t COMPREPLY < <(compgen -f -- "$2") ;;
-    --where) ;;
-    --format) mapfile -t COMPREPLY < <(compgen -W 'tsv table json csv markdown html tree paths' -- "$2") ;;
+    --where)
+      compopt -o nospace 2> /dev/null
+      case $3 in
+        count | sum) mapfile -t COMPREPLY < <(compgen -W 'lang= ext= text= eol= attr: lines> blank> bytes>' -- "$2") ;;
+        diff) mapfile -t COMPREPLY < <(compgen -W 'lang= ext= text= eol= attr: lines> blank> bytes> change=' -- "$2") ;;
+      esac
+      ;;
+    --format)
+      case $3 in
+        count | sum) mapfile -t COMPREPLY < <(compgen -W 'tsv table json csv markdown html tree paths' -- "$2") ;;
+        diff) mapfile -t COMPREPLY < <(compgen -W 'tsv table json csv markdown' -- "$2") ;;
+      esac
+      ;;
     --by) mapfile -t COMPREPLY < <(compgen -W "$(_lc_columns "$2" dir lang ext text eol)" -- "$2") ;;
     --depth) mapfile -t COMPREPLY < <(compgen -W '1 2 3' -- "$2") ;;
     --sort) mapfile -t COMPREPLY < <(compgen -W 'name files lines blank bytes' -- "$2") ;;
@@ -75,7 +86,7 @@ _lc() {
   fi
   case $command in
     count | sum | diff | explain | check)
-      if [ "$command" != check ] && _lc_value "$option" "$current"; then
+      if [ "$command" != check ] && _lc_value "$option" "$current" "$command"; then
         return
       fi
       case $command$current in
