@@ -1,10 +1,11 @@
 -- The columns that each section of a comparison has in each format.
-use Rattle.std.specs.{Prelude.{ℕ, ◌==◌, Bool, if◌then◌else◌, List, [], ◌∷◌, ◌++◌, map, flat_map, Option, is_some, unwrap_or}, List.range_with_len}
-use Rattle.lc_rows.specs.SheetColumns.{column_if, key_columns}
-use Rattle.lc_sheet.specs.Formats.{has_records, keeps_columns}
-use Rattle.lc_sheet.specs.declared.column.{Column.Column, Compared.Compared, Number.{Number, TheVariants.{Files, Lines, Blank, Bytes}}}
-use Rattle.lc_sheet.specs.declared.key.Key.TheVariants.{Dir, Attribute, Ext, Text, Eol}
-use Rattle.lc_sheet.specs.declared.table_options.{Columns.Columns, Format.{Format, TheVariants.{Tsv, Json, Csv}}}
+use Rattle.std.specs.{Prelude.{ℕ, ◌==◌, Bool, if◌then◌else◌, List, [], ◌∷◌, ◌++◌, map, flat_map, Option, is_some, unwrap_or}}
+use Rattle.std.specs.List.{range_with_len}
+use Rattle.lc_rows.specs.{SheetColumns.{column_if, key_columns}}
+use Rattle.lc_sheet.specs.{Formats.{has_records, keeps_columns}}
+use Rattle.lc_sheet.specs.{declared.column.{Column.Column, Compared.Compared, Number.{Number, TheVariants.{Files, Lines, Blank, Bytes}}}}
+use Rattle.lc_sheet.specs.{declared.key.Key.TheVariants.{Dir, Attribute, Ext, Text, Eol}}
+use Rattle.lc_sheet.specs.{declared.table_options.{Columns.Columns, Format.{Format, TheVariants.{Tsv, Json, Csv}}}}
 use Rattle.lc_sheet.specs.declared.column.Column.TheVariants as column
 use Rattle.lc_sheet.specs.declared.column.Compared.TheVariants as compared
 
@@ -63,22 +64,19 @@ changed_sums_columns format rows = if has_records format then by_report compared
 abbrev pub compared_attributes : ℕ → List Compared
 compared_attributes n = map (λ place. compared.Key (Attribute place)) (range_with_len 0 n)
 
--- the columns of the values of files in records: the first n attributes, and the other values
-abbrev pub recorded_in_turn : ℕ → List Column
-recorded_in_turn n = flat_map in_turn (compared_attributes n) ++ flat_map in_turn compared_values
-
-abbrev pub recorded_by_report : ℕ → List Column
-recorded_by_report n =
-    map column.Old (compared_attributes n) ++ (map column.Old compared_values
-    ++ (map column.New (compared_attributes n) ++ map column.New compared_values))
+-- the values of files in records: the first n attributes, and the other values
+abbrev pub recorded_values : ℕ → List Compared
+recorded_values n = compared_attributes n ++ compared_values
 
 -- the columns of files
 abbrev pub file_change_columns : Format → Columns → List Column
 file_change_columns Tsv by = column.Change ∷ (flat_map in_turn compared_values ++ column.Path ∷ [])
 file_change_columns Json by =
-    column.Path ∷ (column_if (is_some by.dir) (column.Key Dir) ++ column.Key Ext ∷ column.Change ∷ recorded_by_report by.attributes)
+    column.Path ∷ (column_if (is_some by.dir) (column.Key Dir)
+    ++ column.Key Ext ∷ column.Change ∷ by_report (recorded_values by.attributes))
 file_change_columns Csv by =
-    column.Path ∷ column.Change ∷ (column_if (is_some by.dir) (column.Key Dir) ++ column.Key Ext ∷ recorded_in_turn by.attributes)
+    column.Path ∷ column.Change ∷ (column_if (is_some by.dir) (column.Key Dir)
+    ++ column.Key Ext ∷ flat_map in_turn (recorded_values by.attributes))
 file_change_columns other by =
     column.Change ∷ column.New (compared.Number Lines) ∷ column.Difference Lines
     ∷ column.New (compared.Number Bytes) ∷ column.Difference Bytes ∷ column.Path ∷ []

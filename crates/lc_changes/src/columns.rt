@@ -1,24 +1,19 @@
 //! The columns that each section of a comparison has in each format.
 
-ghost use Rattle.std.specs.Prelude.{◌≡◌, ◌++◌, map, IfOk, OnOk};
-ghost use Rattle.lc_changes.specs.ChangeColumns.{changed_columns, changed_numbers, changed_sums_columns, compared_attributes};
-ghost use Rattle.lc_changes.specs.ChangeColumns.{file_change_columns, recorded_in_turn, with_change};
-ghost use Rattle.lc_sheet.specs.declared.column.Column.TheVariants.{New, Old};
+ghost use Rattle.std.specs.Prelude.{◌≡◌, ◌++◌, flat_map, IfOk, OnOk};
+ghost use Rattle.lc_changes.specs.ChangeColumns.{by_report, changed_columns, changed_numbers, changed_sums_columns, file_change_columns};
+ghost use Rattle.lc_changes.specs.ChangeColumns.{in_turn, recorded_values, with_change};
 
 use lc_rows::{push_if, push_keys};
 use lc_sheet::{Column, Columns, Compared, Format, Key, Number};
 use std::alloc::{AllocError, Global};
 
-/// Each number of the old report, followed by the same number of the new report.
-const NUMBERS_IN_TURN: [Column; 8] = [
-    Column::Old(Compared::Number(Number::Files)),
-    Column::New(Compared::Number(Number::Files)),
-    Column::Old(Compared::Number(Number::Lines)),
-    Column::New(Compared::Number(Number::Lines)),
-    Column::Old(Compared::Number(Number::Blank)),
-    Column::New(Compared::Number(Number::Blank)),
-    Column::Old(Compared::Number(Number::Bytes)),
-    Column::New(Compared::Number(Number::Bytes)),
+/// The numbers of rows and sums.
+const NUMBERS: [Compared; 4] = [
+    Compared::Number(Number::Files),
+    Compared::Number(Number::Lines),
+    Compared::Number(Number::Blank),
+    Compared::Number(Number::Bytes),
 ];
 
 /// The numbers of the old report, and then the numbers of the new report.
@@ -33,36 +28,13 @@ const NUMBERS_BY_REPORT: [Column; 8] = [
     Column::New(Compared::Number(Number::Bytes)),
 ];
 
-/// Each value of a file in the old report, followed by the same value in the new report.
-const VALUES_IN_TURN: [Column; 10] = [
-    Column::Old(Compared::Key(Key::Text)),
-    Column::New(Compared::Key(Key::Text)),
-    Column::Old(Compared::Key(Key::Eol)),
-    Column::New(Compared::Key(Key::Eol)),
-    Column::Old(Compared::Number(Number::Lines)),
-    Column::New(Compared::Number(Number::Lines)),
-    Column::Old(Compared::Number(Number::Blank)),
-    Column::New(Compared::Number(Number::Blank)),
-    Column::Old(Compared::Number(Number::Bytes)),
-    Column::New(Compared::Number(Number::Bytes)),
-];
-
-/// The values of a file in the old report.
-const OLD_VALUES: [Column; 5] = [
-    Column::Old(Compared::Key(Key::Text)),
-    Column::Old(Compared::Key(Key::Eol)),
-    Column::Old(Compared::Number(Number::Lines)),
-    Column::Old(Compared::Number(Number::Blank)),
-    Column::Old(Compared::Number(Number::Bytes)),
-];
-
-/// The values of a file in the new report.
-const NEW_VALUES: [Column; 5] = [
-    Column::New(Compared::Key(Key::Text)),
-    Column::New(Compared::Key(Key::Eol)),
-    Column::New(Compared::Number(Number::Lines)),
-    Column::New(Compared::Number(Number::Blank)),
-    Column::New(Compared::Number(Number::Bytes)),
+/// The values of a file that are compared, besides its attributes.
+const VALUES: [Compared; 5] = [
+    Compared::Key(Key::Text),
+    Compared::Key(Key::Eol),
+    Compared::Number(Number::Lines),
+    Compared::Number(Number::Blank),
+    Compared::Number(Number::Bytes),
 ];
 
 /// The columns of files in a list for reading.
@@ -74,6 +46,32 @@ const READ_FILES: [Column; 6] = [
     Column::Difference(Number::Bytes),
     Column::Path,
 ];
+
+/// Adds the columns of values: each value of the old report, followed by the same value of the new report.
+fn push_in_turn(columns: &mut Vec<Column>, values: &[Compared]) -> Result<(), AllocError>
+    ensures { OnOk result (columns.new.items ≡ columns.old.items ++ flat_map in_turn values.now) }
+{
+    for value in values {
+        columns.extend_from_slice(&[Column::Old(*value), Column::New(*value)])?;
+    }
+    Ok(())
+}
+
+/// Adds the columns of values: those of the old report, and then those of the new report.
+fn push_by_report(
+    alloc: Global,
+    columns: &mut Vec<Column>,
+    values: &[Compared],
+) -> Result<(), AllocError>
+    ensures { OnOk result (columns.new.items ≡ columns.old.items ++ by_report values.now) }
+{
+    let mut news = Vec::new(alloc);
+    for value in values {
+        columns.push(Column::Old(*value))?;
+        news.push(Column::New(*value))?;
+    }
+    columns.extend_from_slice(&news)
+}
 
 /// Adds the columns of a number of the new report and of its change. If `percent` is the same number, adds the change in per cent too.
 fn push_with_change(
@@ -96,7 +94,7 @@ fn push_numbers(
     ensures { OnOk result (columns.new.items ≡ columns.old.items ++ changed_numbers format sort) }
 {
     match format {
-        Format::Tsv | Format::Csv => columns.extend_from_slice(&NUMBERS_IN_TURN),
+        Format::Tsv | Format::Csv => push_in_turn(columns, &NUMBERS),
         Format::Json => columns.extend_from_slice(&NUMBERS_BY_REPORT),
         Format::Table | Format::Markdown => {
             let percent = sort.unwrap_or(Number::Lines);
@@ -135,36 +133,16 @@ pub(crate) fn changed_sums_columns(format: Format, rows: &[Column]) -> &[Column]
     }
 }
 
-/// Adds the columns of the first attributes in the old report.
-fn push_old_attributes(columns: &mut Vec<Column>, count: u8) -> Result<(), AllocError>
-    ensures { OnOk result (columns.new.items ≡ columns.old.items ++ map Old (compared_attributes count)) }
+/// Returns the values of files that are compared in records: their first attributes, and all others.
+fn recorded_values(alloc: Global, attributes: u8) -> Result<Vec<Compared>, AllocError>
+    ensures { IfOk result (λ values. values.items ≡ recorded_values attributes) }
 {
-    for place in 0..count {
-        columns.push(Column::Old(Compared::Key(Key::Attribute(place))))?;
-    }
-    Ok(())
-}
-
-/// Adds the columns of the first attributes in the new report.
-fn push_new_attributes(columns: &mut Vec<Column>, count: u8) -> Result<(), AllocError>
-    ensures { OnOk result (columns.new.items ≡ columns.old.items ++ map New (compared_attributes count)) }
-{
-    for place in 0..count {
-        columns.push(Column::New(Compared::Key(Key::Attribute(place))))?;
-    }
-    Ok(())
-}
-
-/// Adds the columns of the values of files in records, with those of the first attributes: each value of the old report, followed by the
-/// same value of the new report.
-fn push_values_in_turn(columns: &mut Vec<Column>, attributes: u8) -> Result<(), AllocError>
-    ensures { OnOk result (columns.new.items ≡ columns.old.items ++ recorded_in_turn attributes) }
-{
+    let mut values = Vec::new(alloc);
     for place in 0..attributes {
-        let attribute = Compared::Key(Key::Attribute(place));
-        columns.extend_from_slice(&[Column::Old(attribute), Column::New(attribute)])?;
+        values.push(Compared::Key(Key::Attribute(place)))?;
     }
-    columns.extend_from_slice(&VALUES_IN_TURN)
+    values.extend_from_slice(&VALUES)?;
+    Ok(values)
 }
 
 /// Makes the columns of a comparison's list of files. In records, files have the directory and the attributes that rows are grouped by.
@@ -175,27 +153,25 @@ pub(crate) fn file_change_columns(
 ) -> Result<Vec<Column>, AllocError>
     ensures { IfOk result (λ columns. columns.items ≡ file_change_columns format by) }
 {
+    let values = recorded_values(alloc, by.attributes)?;
     let mut columns = Vec::new(alloc);
     match format {
         Format::Tsv => {
             columns.push(Column::Change)?;
-            columns.extend_from_slice(&VALUES_IN_TURN)?;
+            push_in_turn(&mut columns, &VALUES)?;
             columns.push(Column::Path)?;
         }
         Format::Csv => {
             columns.extend_from_slice(&[Column::Path, Column::Change])?;
             push_if(&mut columns, by.dir.is_some(), Column::Key(Key::Dir))?;
             columns.push(Column::Key(Key::Ext))?;
-            push_values_in_turn(&mut columns, by.attributes)?;
+            push_in_turn(&mut columns, &values)?;
         }
         Format::Json => {
             columns.push(Column::Path)?;
             push_if(&mut columns, by.dir.is_some(), Column::Key(Key::Dir))?;
             columns.extend_from_slice(&[Column::Key(Key::Ext), Column::Change])?;
-            push_old_attributes(&mut columns, by.attributes)?;
-            columns.extend_from_slice(&OLD_VALUES)?;
-            push_new_attributes(&mut columns, by.attributes)?;
-            columns.extend_from_slice(&NEW_VALUES)?;
+            push_by_report(alloc, &mut columns, &values)?;
         }
         Format::Table | Format::Markdown => columns.extend_from_slice(&READ_FILES)?,
     }
