@@ -1,8 +1,8 @@
 -- The parts of two reports whose files are marked are those of the pairs that are kept.
-use Rattle.std.proofs.{Common.{arith, ◌≡◌, ℕ, Bool, false, List, ◌∙◌}, lemmas.Grind.common_steps}
-use Rattle.std.specs.{Bool.MatchBool, List.items_where_true}
+use Rattle.std.proofs.{Common.{arith, ◌≡◌, ℕ, Bool, false, List}, lemmas.Grind.common_steps}
+use Rattle.std.specs.{List.items_where_true}
 use Rattle.lc_changes.proofs.Searching.{kept_by_marks}
-use Rattle.lc_changes.specs.{FileChanges.FileChangeModel, KeptChanges.{AreKeptParts, AreMarked, AreParts, files_of_pairs, marks_by}}
+use Rattle.lc_changes.specs.{FileChanges.FileChangeModel, KeptChanges.{AreKeptParts, AreMarked, files_of_pairs, marks_by}}
 use Rattle.lc_level.specs.Level.{FileLineModel}
 use Rattle.lc_rows.specs.Kept.{IsPartWith}
 use Rattle.lc_sheet.specs.{ChangeKinds.are_all_changes, declared.change_kinds.ChangeKinds.ChangeKinds}

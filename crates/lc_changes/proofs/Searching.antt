@@ -1,10 +1,11 @@
 -- What a binary search finds among elements whose keys rise, and what marks keep.
-use Rattle.std.proofs.Common.{◌≡◌, ℕ, zero, suc, ◌+◌, Bool, true, false, List, [], ◌∷◌, map, filter, length, get_or, Result, Ok, Err}
-use Rattle.std.proofs.Common.{cond, refl, subst, sym, ◌∙◌, ap, arith, ⊎_elim}
-use Rattle.std.proofs.lemmas.{Bool.cases_lt, List.{Folds.{list_any_at, list_any_none}, Sorted.searchable_from_sorted}}
-use Rattle.std.specs.{Cmp.IsTotalOrder, List.{AllByRecursion, items_where_true, list_any}, Ordering.{eq_by_cmp, is_eq, is_lt, ordering_reverse}}
-use Rattle.std.specs.List.Sorted.{IsBinarySearchResult, IsSearchInRange, IsSortedBy, IsStrictlySortedBy}
-use Rattle.std.specs.{Result.is_ok, declared.cmp.Ordering.{Ordering, TheVariants.Less}}
+use Rattle.std.proofs.{Common.{arith, ◌≡◌, ℕ, ◌+◌, Bool, true, false, List, [], ◌∷◌, map, filter, length, get_or, Result, Ok, Err, cond}}
+use Rattle.std.proofs.{Common.{refl, sym, ◌∙◌, ap, ⊎_elim}, lemmas.Bool.cases_lt}
+use Rattle.std.proofs.{lemmas.{List.{Folds.{list_any_at, list_any_none}, Sorted.searchable_from_sorted}, Map.Keys.Less-from_sorted}}
+use Rattle.std.specs.{Cmp.IsTotalOrder, List.{items_where_true, Sorted.{IsBinarySearchResult, IsSearchInRange, IsSortedBy}}}
+use Rattle.std.specs.{Ordering.{eq_by_cmp, is_eq, is_lt, on, ordering_reverse}, Result.is_ok, declared.cmp.Ordering.Ordering}
+use Rattle.lc_changes.proofs.Merging.{Rises}
+use Rattle.lc_changes.specs.Merged.{has_key}
 
 -- elements are kept by a test, or by its marks
 pub kept_by_marks : {X : Type 0} (test : X → Bool) (xs : List X) → items_where_true (map test xs) xs ≡ filter test xs
@@ -13,45 +14,17 @@ kept_by_marks test (x ∷ xs) =
     elim (test x) as (λ b. items_where_true (b ∷ map test xs) (x ∷ xs) ≡ cond b (x ∷ filter test xs) (filter test xs))
     [ true ↦ ap (λ l. x ∷ l) (kept_by_marks test xs) | false ↦ kept_by_marks test xs ]
 
-module _ {X K : Type 0} (key : X → K) (cmp : K → K → Ordering) where
-  below_some : (k : K) (test : X → Bool) (xs : List X) → AllByRecursion (λ y. cmp k y ≡ Less) (map key xs)
-      → AllByRecursion (λ y. cmp k y ≡ Less) (map key (filter test xs))
-  below_some k test [] below = tt
-  below_some k test (x ∷ xs) below =
-      elim (test x) as (λ b. AllByRecursion (λ y. cmp k y ≡ Less) (map key (cond b (x ∷ filter test xs) (filter test xs))))
-      [ true ↦ (below.0, below_some k test xs below.1) | false ↦ below_some k test xs below.1 ]
-
-  -- keys still rise over some of the elements
-  pub some_rise : (test : X → Bool) (xs : List X) → IsStrictlySortedBy cmp (map key xs)
-      → IsStrictlySortedBy cmp (map key (filter test xs))
-  unfolding IsStrictlySortedBy
-  some_rise test [] rises = tt
-  some_rise test (x ∷ xs) rises =
-      elim (test x) as (λ b. IsStrictlySortedBy cmp (map key (cond b (x ∷ filter test xs) (filter test xs))))
-      [ true ↦ (below_some (key x) test xs rises.0, some_rise test xs rises.1) | false ↦ some_rise test xs rises.1 ]
-
 module _ {X K : Type 0} (key : X → K) (cmp : K → K → Ordering) (total : IsTotalOrder cmp) where
-  sorted : (xs : List X) → IsStrictlySortedBy cmp (map key xs) → IsSortedBy (λ a b. is_lt (cmp (key a) (key b))) xs
-  unfolding IsStrictlySortedBy
-  sorted [] rises k d low high = absurd (omega (arith, high))
-  sorted (x ∷ []) rises k d low high = absurd (omega (arith, high))
-  sorted (x ∷ y ∷ ys) rises zero d low high = ap is_lt (total.antisymm (key y) (key x) ∙ ap ordering_reverse rises.0.0)
-  sorted (x ∷ y ∷ ys) rises (suc k) d low high =
-      subst (λ j. is_lt (cmp (key (get_or (x ∷ y ∷ ys) j d)) (key (get_or (y ∷ ys) k d))) ≡ false) (one_more k)
-      (sorted (y ∷ ys) rises.1 k d (omega arith) (omega (arith, high)))
-    where
-      one_more : (n : ℕ) → suc (n + 1) ≡ suc n + 1
-      one_more n = omega arith
-
-  -- whether some element has a key
-  abbrev pub has_key : K → List X → Bool
-  has_key k xs = list_any (λ x. eq_by_cmp cmp k (key x)) xs
+  sorted : (xs : List X) → Rises key cmp xs → IsSortedBy (λ a b. is_lt (cmp (key a) (key b))) xs
+  sorted xs rises k d low high =
+      ap is_lt (total.antisymm (key (get_or xs (k + 1) d)) (key (get_or xs k d))
+      ∙ ap ordering_reverse (Less-from_sorted (on key cmp) xs k (k + 1) d rises (omega arith) high))
 
   same : (k : K) (x : X) (o : Ordering) → cmp (key x) k ≡ o → eq_by_cmp cmp k (key x) ≡ is_eq (ordering_reverse o)
   same k x o is = ap is_eq (total.antisymm k (key x) ∙ ap ordering_reverse is)
 
-  pub searched : (k : K) (xs : List X) (r : Result ℕ ℕ) → IsStrictlySortedBy cmp (map key xs) → IsSearchInRange r (length xs)
-      → IsBinarySearchResult (λ x. cmp (key x) k) xs r → is_ok r ≡ has_key k xs
+  pub searched : (k : K) (xs : List X) (r : Result ℕ ℕ) → Rises key cmp xs → IsSearchInRange r (length xs)
+      → IsBinarySearchResult (λ x. cmp (key x) k) xs r → is_ok r ≡ has_key key (eq_by_cmp cmp k) xs
   searched k [] (Ok i) rises low equal = absurd (omega (arith, low))
   searched k (x ∷ xs) (Ok i) rises low equal =
       sym (list_any_at (λ y. eq_by_cmp cmp k (key y)) (x ∷ xs) i x low (same k (get_or (x ∷ xs) i x) _ (equal x)))

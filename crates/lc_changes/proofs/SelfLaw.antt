@@ -1,23 +1,24 @@
 -- A report does not differ from itself.
-use Rattle.std.proofs.lemmas.{Grind.common_steps, Cmp.{nat_list_cmp_total, tied_itself}, List.Elements.recursion_from_All}
-use Rattle.std.proofs.lemmas.List.{nil_from_length}
-use Rattle.std.proofs.lemmas.List.Elements.{All-contains, All-from_recursion, Contains-append_cases, Contains-push_cases}
-use Rattle.std.proofs.lemmas.List.{Folds.list_any_at, Sorted.length_permutation}
-use Rattle.std.proofs.Common.{◌≡◌, ℕ, ◌==◌, Bool, true, false, cond, if◌then◌else◌, not, ◌&&◌, ◌||◌, List, [], ◌∷◌, map, length, Option}
-use Rattle.std.proofs.{Common.{Some, None, refl, sym, ◌∙◌, ap, subst, arith, IsPermutation}, Math.Seq.take-nil}
-use Rattle.std.specs.{Cmp.nat_eq_equiv, List.{AllByRecursion, Contains, IsDistinct, filter, list_any}, Ordering.is_eq}
+use Rattle.std.proofs.{lemmas.{Grind.common_steps, Cmp.tied_itself}}
+use Rattle.std.proofs.{lemmas.List.{Elements.{recursion_from_All, All-weaker}, nil_from_length, Sorted.length_permutation}}
+use Rattle.std.proofs.{lemmas.Map.Lookups.exact_bytes, Common.{◌≡◌, ℕ, ◌==◌, Bool, true, false, cond, if◌then◌else◌, not, ◌&&◌, ◌||◌, List}}
+use Rattle.std.proofs.{Common.{[], ◌∷◌, map, length, Option, Some, None, refl, sym, ◌∙◌, ap, subst, arith, IsPermutation}}
+use Rattle.std.proofs.Math.Seq.{take-nil}
+use Rattle.std.specs.{Cmp.nat_eq_equiv, List.{AllByRecursion, IsDistinct, filter, list_any}, Ordering.is_eq, declared.cmp.Ordering.Ordering}
 use Rattle.lc_changes.specs.{ChangeColumns.{changed_columns, changed_sums_columns, file_change_columns}, ChangeSheets.comparison_of}
-use Rattle.lc_changes.specs.{ChangeSheets.{form_by, other_sums, total_sums}, ChangeValues.{ChangedSumsModel, changed_sums_value}}
-use Rattle.lc_changes.specs.{ChangeValues.{changed_value, file_change_value}, Changes.{ChangedRowModel, AreChangesSorted, AreCompared}}
-use Rattle.lc_changes.specs.{Changes.{differs, kept_rows}, FileChanges.{FileChangeModel, AreFileChangesSorted, AreFilesChanged}}
-use Rattle.lc_changes.specs.FileChanges.{AreFilesCompared, IsFileAt, are_same_counts, file_path, is_changed, same_path, sides_differ}
-use Rattle.lc_changes.specs.Laws.{SelfLaw, has_no_line}
+use Rattle.lc_changes.specs.{ChangeSheets.{form_by, other_sums, total_sums}, ChangeValues.{changed_sums_value, changed_value}}
+use Rattle.lc_changes.specs.{ChangeValues.file_change_value, declared.changed_row.ChangedRow.ChangedRow}
+use Rattle.lc_changes.specs.{declared.kinds.sums.ChangedSums.ChangedSums, Changes.{AreCompared, AreSortedBy, IsRowOf, change_cmp}}
+use Rattle.lc_changes.specs.{Changes.{changed_key, differs, kept_rows}, FileChanges.{FileChangeModel, AreFilesChanged, file_change_cmp}}
+use Rattle.lc_changes.specs.{FileChanges.{AreFilesCompared, IsFileOf, IsOneOf, are_same_counts, changed_path, file_path, is_changed}}
+use Rattle.lc_changes.specs.{FileChanges.{same_path, sides_differ}, Laws.{SelfLaw, has_no_line}, Merged.{IsLineAt, of_key}}
 use Rattle.lc_level.specs.Level.{FileLineModel}
 use Rattle.lc_rows.proofs.SameKeys.{row_key_cmp_total}
-use Rattle.lc_rows.specs.{RowKeys.ShownRowModel, Sheets.{section_of, with_attributes}, ShownRows.parts_of, Views.{first_of, rest_of}}
+use Rattle.lc_rows.specs.{RowKeys.{ShownRowModel, row_key, row_key_cmp}, Sheets.{section_of, with_attributes}, ShownRows.parts_of}
+use Rattle.lc_rows.specs.{Views.{first_of, rest_of}}
 use Rattle.lc_sheet.specs.{Sheets.lines_of, Values.ValueModel, declared.column.{Column.Column, Number.Number}}
-use Rattle.lc_tree.specs.ByteOrder.{AreApart, bytes_cmp}
-use Rattle.lc_walk.specs.declared.tally.sums.Sums.{Sums}
+use Rattle.lc_tree.specs.{ByteOrder.{AreApart, bytes_cmp}}
+use Rattle.lc_walk.proofs.Keys.{equal_if}
 
 -- ---- rows
 
@@ -27,7 +28,7 @@ same_number n = nat_eq_equiv.refl n
 four : (a b c d : Bool) → a ≡ true → b ≡ true → c ≡ true → d ≡ true → not (a && b && c && d) ≡ false
 four a b c d e f g h = λ i. not (e i && f i && g i && h i)
 
-no_change : (r : ChangedRowModel) → r.old_sums ≡ r.new_row.sums → differs r ≡ false
+no_change : (r : ChangedRow) → r.old_sums ≡ r.new_row.sums → differs r ≡ false
 no_change r same = grind (arith, common_steps, four, same_number)
 
 -- where no element passes, none is kept
@@ -39,26 +40,20 @@ none_passes : {X : Type 0} (test : X → Bool) (xs : List X) → AllByRecursion 
 none_passes test [] fail = refl
 none_passes test (x ∷ xs) fail = ap (λ b. b || list_any test xs) fail.0 ∙ none_passes test xs fail.1
 
-pub both_hold : {X : Type 0} (P Q R : X → Type 0) → ((x : X) → P x → Q x → R x) → (xs : List X) → AllByRecursion P xs → AllByRecursion Q xs
-    → AllByRecursion R xs
-both_hold P Q R give [] ps qs = tt
-both_hold P Q R give (x ∷ xs) ps qs = (give x ps.0 qs.0, both_hold P Q R give xs ps.1 qs.1)
-
-rows_same : (parts : List ShownRowModel) (rows : List ChangedRowModel) → AreCompared parts parts rows
+rows_same : (parts : List ShownRowModel) (rows : List ChangedRow) → AreCompared parts parts rows
     → AllByRecursion (λ r. differs r ≡ false) rows
-rows_same parts rows compared = grind (arith, common_steps, both_hold, no_change, recursion_from_All)
+rows_same parts rows compared =
+    recursion_from_All (λ r. differs r ≡ false) rows
+    (All-weaker (IsLineAt row_key row_key_cmp changed_key IsRowOf parts parts) (λ r. differs r ≡ false)
+    (λ r is. no_change r (is.0 ∙ sym is.1)) rows compared.each)
 
 none_moved : {X : Type 0} (xs ys : List X) → xs ≡ [] → IsPermutation xs ys → ys ≡ []
 none_moved xs ys none moved = nil_from_length ys (length_permutation xs ys moved ∙ ap length none)
 
-none_sorted : (sort : Option Number) (rows sorted : List ChangedRowModel) → rows ≡ [] → AreChangesSorted sort rows sorted → sorted ≡ []
-none_sorted None rows sorted none is = is ∙ none
-none_sorted (Some n) rows sorted none is = none_moved rows sorted none is.0
-
-no_files_sorted : (sort : Option Number) (files sorted : List FileChangeModel) → files ≡ [] → AreFileChangesSorted sort files sorted
-    → sorted ≡ []
-no_files_sorted None files sorted none is = is ∙ none
-no_files_sorted (Some n) files sorted none is = none_moved files sorted none is.0
+none_sorted : {L : Type 0} (cmp : Number → L → L → Ordering) (sort : Option Number) (lines sorted : List L) → lines ≡ []
+    → AreSortedBy cmp sort lines sorted → sorted ≡ []
+none_sorted cmp None lines sorted none is = is ∙ none
+none_sorted cmp (Some n) lines sorted none is = none_moved lines sorted none is.0
 
 none_first : {X : Type 0} (top : Option ℕ) → first_of {X = X} top [] ≡ []
 none_first None = refl
@@ -69,58 +64,56 @@ none_left top = grind (arith, common_steps)
 
 -- ---- files
 
-unmapped : {X Y : Type 0} (P : Y → Type 0) (f : X → Y) (xs : List X) → AllByRecursion P (map f xs) → AllByRecursion (λ x. P (f x)) xs
-unmapped P f [] all = tt
-unmapped P f (x ∷ xs) all = (all.0, unmapped P f xs all.1)
-
--- the first of some elements, or one of the others
-first_or_other : {X : Type 0} (x y : X) (xs : List X) (A : Type 0) → (x ≡ y → A) → (Contains xs y → A) → Contains (x ∷ xs) y → A
-first_or_other x y xs A first other has = grind (arith, common_steps)
-
 -- no other file has the path of the first
-not_apart : (f g : FileLineModel) (fs : List FileLineModel) → AllByRecursion (λ y. is_eq (bytes_cmp f.path y) ≡ false) (map file_path fs)
-    → Contains fs g → f.path ≡ g.path → f ≡ g
-not_apart f g fs others has same =
-    let other : is_eq (bytes_cmp f.path g.path) ≡ false =
-    All-contains (λ (h : FileLineModel). is_eq (bytes_cmp f.path h.path) ≡ false) fs g
-    (All-from_recursion _ fs (unmapped (λ y. is_eq (bytes_cmp f.path y) ≡ false) file_path fs others)) has in
-    let tied : is_eq (bytes_cmp f.path g.path) ≡ true =
-    ap (λ p. is_eq (bytes_cmp f.path p)) (sym same) ∙ ap is_eq (tied_itself nat_list_cmp_total f.path) in
-    absurd (cc)
+none_other : (f : FileLineModel) (fs : List FileLineModel) → AllByRecursion (λ y. is_eq (bytes_cmp f.path y) ≡ false) (map file_path fs)
+    → of_key file_path bytes_cmp f.path fs ≡ []
+none_other f [] others = refl
+none_other f (g ∷ gs) others =
+    ap (λ b. cond b (g ∷ of_key file_path bytes_cmp f.path gs) (of_key file_path bytes_cmp f.path gs)) others.0 ∙ none_other f gs others.1
 
--- two files of a report at one path are the same file
-pub one_at : (fs : List FileLineModel) (a b : FileLineModel) → AreApart (map file_path fs) → Contains fs a → Contains fs b → a.path ≡ b.path
-    → a ≡ b
+of_none : (a : Option FileLineModel) → IsOneOf [] a → a ≡ None
+of_none None is = refl
+of_none (Some f) is = absurd (omega (arith, is.1))
+
+of_one : (f : FileLineModel) (a : Option FileLineModel) → IsOneOf (f ∷ []) a → a ≡ Some f
+of_one f None is = absurd (cc)
+of_one f (Some g) is = grind (arith, common_steps)
+
+-- a report has one file at a path, or none
+pub one_file : (fs : List FileLineModel) (path : List ℕ) (a b : Option FileLineModel) → AreApart (map file_path fs)
+    → IsOneOf (of_key file_path bytes_cmp path fs) a → IsOneOf (of_key file_path bytes_cmp path fs) b → a ≡ b
 unfolding IsDistinct
-one_at [] a b apart has_a has_b same = absurd (omega (arith, has_a.1))
-one_at (f ∷ fs) a b apart has_a has_b same =
-    first_or_other f a fs (a ≡ b)
-    (λ is_a. first_or_other f b fs (a ≡ b) (λ is_b. sym is_a ∙ is_b)
-    (λ in_b. sym is_a ∙ not_apart f b fs apart.0 in_b (ap file_path is_a ∙ same)) has_b)
-    (λ in_a. first_or_other f b fs (a ≡ b)
-    (λ is_b. sym (not_apart f a fs apart.0 in_a (ap file_path is_b ∙ sym same)) ∙ is_b)
-    (λ in_b. one_at fs a b apart.1 in_a in_b same) has_b)
-    has_a
+one_file [] path a b apart is_a is_b = of_none a is_a ∙ sym (of_none b is_b)
+one_file (f ∷ fs) path a b apart is_a is_b =
+    at (same_path path f.path) refl is_a is_b (one_file fs path a b apart.1)
+  where
+    rest : List FileLineModel
+    rest = of_key file_path bytes_cmp path fs
+
+    at : (t : Bool) → same_path path f.path ≡ t → IsOneOf (cond t (f ∷ rest) rest) a → IsOneOf (cond t (f ∷ rest) rest) b
+        → (IsOneOf rest a → IsOneOf rest b → a ≡ b) → a ≡ b
+    at true same is_a is_b other =
+        let none : rest ≡ [] = subst (λ p. of_key file_path bytes_cmp p fs ≡ [])
+        (sym (exact_bytes path f.path (equal_if (bytes_cmp path f.path) same))) (none_other f fs apart.0) in
+        of_one f a (subst (λ l. IsOneOf (f ∷ l) a) none is_a) ∙ sym (of_one f b (subst (λ l. IsOneOf (f ∷ l) b) none is_b))
+    at false differ is_a is_b other = other is_a is_b
 
 is_itself : (n : ℕ) (f : FileLineModel) → not (are_same_counts n f f) ≡ false
 is_itself n f = grind (arith, common_steps, four, tied_itself, row_key_cmp_total, same_number)
 
--- a file that a report has at a path is not missing there
-pub not_missing : (fs : List FileLineModel) (path : List ℕ) (f : FileLineModel) → Contains fs f → f.path ≡ path
-    → list_any (λ (g : FileLineModel). same_path path g.path) fs ≡ false → {A : Type 0} → A
-not_missing fs path f has is missing = grind (arith, common_steps, list_any_at, tied_itself, nat_list_cmp_total)
-
-sides_same : (n : ℕ) (fs : List FileLineModel) (path : List ℕ) (old new : Option FileLineModel) → AreApart (map file_path fs)
-    → IsFileAt fs path old → IsFileAt fs path new → sides_differ n old new ≡ false
-sides_same n fs path None None apart old new = refl
-sides_same n fs path None (Some b) apart old new = not_missing fs path b new.0 new.1 old
-sides_same n fs path (Some a) None apart old new = not_missing fs path a old.0 old.1 new
-sides_same n fs path (Some a) (Some b) apart old new =
-    ap (λ f. not (are_same_counts n a f)) (sym (one_at fs a b apart old.0 new.0 (old.1 ∙ sym new.1))) ∙ is_itself n a
+sides_same : (n : ℕ) (old new : Option FileLineModel) → old ≡ new → sides_differ n old new ≡ false
+sides_same n None None same = refl
+sides_same n None (Some b) same = absurd (cc)
+sides_same n (Some a) None same = absurd (cc)
+sides_same n (Some a) (Some b) same = grind (arith, common_steps, is_itself)
 
 files_same : (n : ℕ) (fs : List FileLineModel) (compared : List FileChangeModel) → AreApart (map file_path fs)
     → AreFilesCompared fs fs compared → filter (is_changed n) compared ≡ []
-files_same n fs compared apart are = grind (arith, common_steps, none_kept, both_hold, sides_same, recursion_from_All)
+files_same n fs compared apart are =
+    none_kept (is_changed n) compared (recursion_from_All (λ c. is_changed n c ≡ false) compared
+    (All-weaker (IsLineAt file_path bytes_cmp changed_path IsFileOf fs fs) (λ c. is_changed n c ≡ false)
+    (λ c is. sides_same n c.old_file c.new_file (one_file fs (changed_path c) c.old_file c.new_file apart is.0 is.1))
+    compared are.each))
 
 no_files : (listed : Bool) (n : ℕ) (fs : List FileLineModel) (files : List FileChangeModel) → AreApart (map file_path fs)
     → AreFilesChanged listed n fs fs files → files ≡ []
@@ -140,21 +133,23 @@ self_law options attributes r c apart are =
     let same : AllByRecursion (λ r. differs r ≡ false) are.rows =
     rows_same (parts_of options.by r.rows.items r.files.items) are.rows are.are_rows in
     let no_file : are.files ≡ [] = no_files options.files options.by.attributes r.files.items are.files apart are.are_files in
-    let none_listed : are.listed ≡ [] = no_files_sorted options.sort are.files are.listed no_file are.are_listed in
+    let none_listed : are.listed ≡ [] = none_sorted file_change_cmp options.sort are.files are.listed no_file are.are_listed in
     let none_shown : options.all ≡ false → are.shown ≡ [] =
-    λ some. none_sorted options.sort (kept_rows options.all are.rows) are.shown
+    λ some. none_sorted change_cmp options.sort (kept_rows options.all are.rows) are.shown
     (ap (λ all. kept_rows all are.rows) some ∙ none_kept differs are.rows same) are.are_shown in
-    let total : List ChangedSumsModel = total_sums r.totals r.totals in
+    let total : List ChangedSums = total_sums r.totals r.totals in
     record {
       differ = are.is_differ ∙ (λ i. none_passes differs are.rows same i || list_any (is_changed options.by.attributes) (no_file i));
       rows = λ some. ap (λ s. s.rows.lines) are.is_sheet
           ∙ ap (λ rows. (comparison_of options attributes total rows are.listed).rows.lines) (none_shown some)
-          ∙ ap (λ rows. lines_of (changed_value (form_by options.format options.by)) (changed_columns options.format options.sort options.by) rows)
+          ∙ ap (λ rows. lines_of (changed_value (form_by options.format options.by))
+          (changed_columns options.format options.sort options.by) rows)
           (none_first options.top);
       others = λ some. ap (λ s. s.others.lines) are.is_sheet
           ∙ ap (λ rows. (comparison_of options attributes total rows are.listed).others.lines) (none_shown some)
           ∙ ap (λ rows. lines_of (changed_sums_value (form_by options.format options.by))
-          (changed_sums_columns options.format (changed_columns options.format options.sort options.by)) (other_sums rows)) (none_left options.top);
+          (changed_sums_columns options.format (changed_columns options.format options.sort options.by)) (other_sums rows))
+          (none_left options.top);
       files = subst has_no_line (sym (ap (λ s. s.files) are.is_sheet
           ∙ ap (λ files. (comparison_of options attributes total are.shown files).files) none_listed))
           (no_lines options.files attributes options.top (file_change_value (form_by options.format options.by))

@@ -1,16 +1,14 @@
 -- What a comparison of two reports shows.
-use Rattle.std.specs.Prelude.{◌≡◌, ℕ, true, false, Bool, ◌||◌, if◌then◌else◌, List, [], ◌∷◌, codes, Option, Some, None}
-use Rattle.std.specs.List.{list_any}
-use Rattle.lc_changes.specs.{ChangeColumns.{changed_columns, changed_sums_columns, file_change_columns}, ChangeValues.ChangedSumsModel}
-use Rattle.lc_changes.specs.{ChangeValues.{changed_sums_value, changed_value, file_change_value}, Changes.ChangedRowModel}
-use Rattle.lc_changes.specs.Changes.{AreChangesSorted, AreCompared, differs, kept_rows, new_sums_of, old_sums_of}
-use Rattle.lc_changes.specs.FileChanges.{FileChangeModel, AreFileChangesSorted, AreFilesChanged, is_changed}
-use Rattle.lc_changes.specs.declared.options.ChangeOptions.{ChangeOptions}
-use Rattle.lc_rows.specs.{SheetColumns.first_key, Sheets.{section_of, with_attributes}, ShownRows.parts_of}
-use Rattle.lc_rows.specs.Views.{first_of, rest_of}
-use Rattle.lc_sheet.specs.{Formats.keeps_columns, Keys.are_of_files, Sheets.{SectionModel, SheetModel}, declared.{column.Column.Column, form.Form.Form}}
-use Rattle.lc_sheet.specs.declared.table_options.{Columns.Columns, Format.Format}
-use Rattle.lc_walk.specs.declared.{options.ReportLists.ReportLists, report.Report.Report, tally.sums.Sums.Sums}
+use Rattle.std.specs.{Prelude.{◌≡◌, ℕ, true, false, Bool, ◌||◌, if◌then◌else◌, List, [], ◌∷◌, codes, Option, Some, None}, List.list_any}
+use Rattle.lc_changes.specs.{ChangeColumns.{changed_columns, changed_sums_columns, file_change_columns}}
+use Rattle.lc_changes.specs.{declared.{changed_row.ChangedRow.ChangedRow, kinds.sums.ChangedSums.ChangedSums}}
+use Rattle.lc_changes.specs.{declared.options.ChangeOptions.ChangeOptions, ChangeValues.{changed_sums_value, changed_value}}
+use Rattle.lc_changes.specs.{ChangeValues.file_change_value, Changes.{AreChangesSorted, AreCompared, differs, kept_rows, new_sums_of}}
+use Rattle.lc_changes.specs.{Changes.old_sums_of, FileChanges.{FileChangeModel, AreFileChangesSorted, AreFilesChanged, is_changed}}
+use Rattle.lc_rows.specs.{SheetColumns.first_key, Sheets.{section_of, with_attributes}, ShownRows.parts_of, Views.{first_of, rest_of}}
+use Rattle.lc_sheet.specs.{Formats.keeps_columns, Keys.are_of_files, Sheets.{SectionModel, SheetModel}, declared.column.Column.Column}
+use Rattle.lc_sheet.specs.{declared.{form.Form.Form, table_options.{Columns.Columns, Format.Format}}}
+use Rattle.lc_walk.specs.{declared.{options.ReportLists.ReportLists, report.Report.Report, tally.sums.Sums.Sums}}
 
 -- the form of lines: the columns that rows are grouped by, and the column of the names of sums
 abbrev pub form_by : Format → Columns → Form
@@ -18,15 +16,15 @@ form_by format by = record { by = by; first = first_key (keeps_columns format) b
 
 -- ---- sums
 
-abbrev pub sums_line : List ℕ → Sums → Sums → ChangedSumsModel
+abbrev pub sums_line : List ℕ → Sums → Sums → ChangedSums
 sums_line name old new = record { new_sums = record { name = name; sums = new }; old_sums = old }
 
 -- the line of the sums over the rows that are cut off, if there are any
-abbrev pub other_sums : List ChangedRowModel → List ChangedSumsModel
+abbrev pub other_sums : List ChangedRow → List ChangedSums
 other_sums [] = []
 other_sums (r ∷ rows) = sums_line (codes "others") (old_sums_of (r ∷ rows)) (new_sums_of (r ∷ rows)) ∷ []
 
-abbrev pub total_sums : Sums → Sums → List ChangedSumsModel
+abbrev pub total_sums : Sums → Sums → List ChangedSums
 total_sums old new = sums_line (codes "total") old new ∷ []
 
 -- ---- the comparison
@@ -39,9 +37,9 @@ pub record ShownChangesModel : Type 0 where
   pub attributes : List (List ℕ)
   pub columns : List Column
   pub file_columns : List Column
-  pub rows : List ChangedRowModel
-  pub others : List ChangedSumsModel
-  pub total : List ChangedSumsModel
+  pub rows : List ChangedRow
+  pub others : List ChangedSums
+  pub total : List ChangedSums
   pub lists_files : Bool
   pub files : List FileChangeModel
 
@@ -64,7 +62,7 @@ comparison_with m = record {
 }
 
 -- the comparison that shows the first of these sorted rows and files, the sums over the other rows, and this total
-abbrev pub comparison_of : ChangeOptions → List (List ℕ) → List ChangedSumsModel → List ChangedRowModel → List FileChangeModel → SheetModel
+abbrev pub comparison_of : ChangeOptions → List (List ℕ) → List ChangedSums → List ChangedRow → List FileChangeModel → SheetModel
 comparison_of options attributes total rows files = comparison_with (record {
   format = options.format;
   form = form_by options.format options.by;
@@ -84,14 +82,14 @@ pub record ChangesModel : Type 0 where
   pub some_differ : Bool
 
 -- whether a row or a file differs; the first n attributes of files are compared
-abbrev pub some_differ : ℕ → List ChangedRowModel → List FileChangeModel → Bool
+abbrev pub some_differ : ℕ → List ChangedRow → List FileChangeModel → Bool
 some_differ n rows files = list_any differs rows || list_any (is_changed n) files
 
 -- the comparison of two reports with these options, and these names of attributes
 pub record AreChangesOf (options : ChangeOptions) (attributes : List (List ℕ)) (old new : Report) (c : ChangesModel) : Type 0 where
-  pub rows : List ChangedRowModel
+  pub rows : List ChangedRow
   pub are_rows : AreCompared (parts_of options.by old.rows.items old.files.items) (parts_of options.by new.rows.items new.files.items) rows
-  pub shown : List ChangedRowModel
+  pub shown : List ChangedRow
   pub are_shown : AreChangesSorted options.sort (kept_rows options.all rows) shown
   pub files : List FileChangeModel
   pub are_files : AreFilesChanged options.files options.by.attributes old.files.items new.files.items files

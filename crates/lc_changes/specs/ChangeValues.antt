@@ -1,48 +1,37 @@
 -- The lines of a comparison: the values that rows, sums and files have in each column.
 use Rattle.std.specs.Prelude.{ℕ, List, codes, Option, Some, None}
-use Rattle.lc_changes.specs.{Changes.ChangedRowModel, FileChanges.{FileChangeModel, either_file, side_number}}
+use Rattle.lc_changes.specs.FileChanges.{FileChangeModel, either_file, side_number}
+use Rattle.lc_changes.specs.declared.{changed_row.ChangedRow.ChangedRow, kinds.sums.ChangedSums.ChangedSums}
 use Rattle.lc_level.specs.Level.{FileLineModel}
-use Rattle.lc_rows.specs.{Kinds.{NamedSumsModel, file_value, row_value, sums_value}, ShownRows.number_in}
+use Rattle.lc_rows.specs.{Kinds.{file_value, row_value, sums_value}, ShownRows.number_in}
 use Rattle.lc_sheet.specs.{ColumnWords.compared_column, Values.{ValueModel, missing, blank, word, number, difference, growth}}
-use Rattle.lc_sheet.specs.declared.{column.{Column.Column, Compared.Compared}, form.Form.Form}
+use Rattle.lc_sheet.specs.declared.{column.Column.Column, form.Form.Form}
 use Rattle.lc_walk.specs.declared.tally.sums.Sums.{Sums}
 use Rattle.lc_sheet.specs.declared.column.Column.TheVariants as column
 use Rattle.lc_sheet.specs.declared.column.Compared.TheVariants as compared
 
--- ---- rows
+-- ---- rows and sums
 
-abbrev pub changed_value : Form → ChangedRowModel → Column → ValueModel
-changed_value form r (column.Old (compared.Number n)) = number (number_in n r.old_sums)
-changed_value form r (column.New (compared.Number n)) = number (number_in n r.new_row.sums)
-changed_value form r (column.Difference n) = difference (number_in n r.old_sums) (number_in n r.new_row.sums)
-changed_value form r (column.Growth n) = growth (number_in n r.old_sums) (number_in n r.new_row.sums)
-changed_value form r other = row_value form r.new_row other
+-- the value of sums of the old and of the new report in a column that shows their numbers; any other column has another value
+abbrev pub compared_value : Sums → Sums → Column → ValueModel → ValueModel
+compared_value old new (column.Old (compared.Number n)) other = number (number_in n old)
+compared_value old new (column.New (compared.Number n)) other = number (number_in n new)
+compared_value old new (column.Difference n) other = difference (number_in n old) (number_in n new)
+compared_value old new (column.Growth n) other = growth (number_in n old) (number_in n new)
+compared_value old new column other = other
 
--- ---- sums
+abbrev pub changed_value : Form → ChangedRow → Column → ValueModel
+changed_value form r column = compared_value r.old_sums r.new_row.sums column (row_value form r.new_row column)
 
--- sums over files of the new report, with their name, and sums over files of the old report
-pub record ChangedSumsModel : Type 0 where
-  pub new_sums : NamedSumsModel
-  pub old_sums : Sums
-
-abbrev pub changed_sums_value : Form → ChangedSumsModel → Column → ValueModel
-changed_sums_value form s (column.Old (compared.Number n)) = number (number_in n s.old_sums)
-changed_sums_value form s (column.New (compared.Number n)) = number (number_in n s.new_sums.sums)
-changed_sums_value form s (column.Difference n) = difference (number_in n s.old_sums) (number_in n s.new_sums.sums)
-changed_sums_value form s (column.Growth n) = growth (number_in n s.old_sums) (number_in n s.new_sums.sums)
-changed_sums_value form s other = sums_value form s.new_sums other
+abbrev pub changed_sums_value : Form → ChangedSums → Column → ValueModel
+changed_sums_value form s column = compared_value s.old_sums s.new_sums.sums column (sums_value form s.new_sums column)
 
 -- ---- files
 
--- the compared value of a file in one report; it is `missing` if the report lacks the file
-abbrev pub side_value : Form → Option FileLineModel → Compared → ValueModel
-side_value form None compared = missing
-side_value form (Some f) compared = file_value form f (compared_column compared)
-
--- a value of a file that does not depend on the report, such as its extension
-abbrev pub shared_value : Form → Option FileLineModel → Column → ValueModel
-shared_value form None column = blank
-shared_value form (Some f) column = file_value form f column
+-- the value of a file, or another value if there is no file
+abbrev pub value_or : ValueModel → Form → Option FileLineModel → Column → ValueModel
+value_or absent form None column = absent
+value_or absent form (Some f) column = file_value form f column
 
 abbrev pub change_word : Option FileLineModel → Option FileLineModel → List ℕ
 change_word None new = codes "added"
@@ -51,8 +40,8 @@ change_word (Some f) (Some g) = codes "changed"
 
 abbrev pub file_change_value : Form → FileChangeModel → Column → ValueModel
 file_change_value form c column.Change = word (change_word c.old_file c.new_file)
-file_change_value form c (column.Old compared) = side_value form c.old_file compared
-file_change_value form c (column.New compared) = side_value form c.new_file compared
+file_change_value form c (column.Old compared) = value_or missing form c.old_file (compared_column compared)
+file_change_value form c (column.New compared) = value_or missing form c.new_file (compared_column compared)
 file_change_value form c (column.Difference n) = difference (side_number n c.old_file) (side_number n c.new_file)
 file_change_value form c (column.Growth n) = growth (side_number n c.old_file) (side_number n c.new_file)
-file_change_value form c other = shared_value form (either_file c) other
+file_change_value form c other = value_or blank form (either_file c) other

@@ -1,40 +1,21 @@
 -- The rows of a comparison: for each key the sums of both reports.
-use Rattle.std.specs.Prelude.{◌≡◌, ℕ, ◌+◌, ◌-◌, ◌==◌, Bool, ◌&&◌, ◌||◌, not, if◌then◌else◌, List, map, filter, Option, Some, None}
-use Rattle.std.specs.{List.{All, list_any, Sorted.{IsPermutation, IsSorted, IsStrictlySortedBy}}, Ordering.{nat_cmp, on, then_cmp}}
-use Rattle.std.specs.declared.cmp.Ordering.{Ordering}
-use Rattle.lc_changes.specs.Pairs.{PairModel, removed, added, both}
-use Rattle.lc_rows.specs.RowKeys.{RowKey, ShownRowModel, has_within, row_key, row_key_cmp, row_with, rows_within, same_row_key}
-use Rattle.lc_rows.specs.{RowKeys.{sums_of_shown, sums_over}, ShownRows.number_in}
+use Rattle.std.specs.Prelude.{◌≡◌, ℕ, ◌+◌, ◌-◌, ◌==◌, Bool, ◌&&◌, not, if◌then◌else◌, List, filter, Option, Some, None}
+use Rattle.std.specs.{List.Sorted.{IsPermutation, IsSorted}, Ordering.{nat_cmp, on, then_cmp}, declared.cmp.Ordering.Ordering}
+use Rattle.lc_changes.specs.{Merged.AreMerged, declared.changed_row.ChangedRow.ChangedRow}
+use Rattle.lc_rows.specs.{RowKeys.{RowKey, ShownRowModel, row_key, row_key_cmp, sums_of_shown, sums_over}, ShownRows.number_in}
 use Rattle.lc_sheet.specs.declared.column.Number.{Number}
-use Rattle.lc_walk.specs.{Sums.no_files, declared.tally.sums.Sums.Sums}
+use Rattle.lc_walk.specs.declared.tally.sums.Sums.{Sums}
 
--- a row of the new report, and the sums of its key in the old report
-pub record ChangedRowModel : Type 0 where
-  pub new_row : ShownRowModel
-  pub old_sums : Sums
-
-abbrev pub changed_key : ChangedRowModel → RowKey
+abbrev pub changed_key : ChangedRow → RowKey
 changed_key r = row_key r.new_row
 
-abbrev pub changed_row : ShownRowModel → Sums → ChangedRowModel
-changed_row row old = record { new_row = row; old_sums = old }
-
--- the row of a pair; a report without the key has sums of zero
-abbrev pub row_of_pair : PairModel ShownRowModel → ChangedRowModel
-row_of_pair (removed o) = changed_row (row_with (row_key o) no_files) o.sums
-row_of_pair (added n) = changed_row n no_files
-row_of_pair (both o n) = changed_row n o.sums
-
--- the sums over the parts that have a key
-abbrev pub sums_at : RowKey → List ShownRowModel → Sums
-sums_at k parts = sums_of_shown (rows_within (same_row_key k) parts)
+-- the row of parts of both reports: the sums over these parts
+abbrev pub IsRowOf : List ShownRowModel → List ShownRowModel → ChangedRow → Type 0
+IsRowOf olds news r = (r.old_sums ≡ sums_of_shown olds) × (r.new_row.sums ≡ sums_of_shown news)
 
 -- for each key that the parts of some report have, a row with the sums of this key in both reports, in the order of keys
-pub record AreCompared (olds news : List ShownRowModel) (rows : List ChangedRowModel) : Type 0 where
-  pub old : All (λ (r : ChangedRowModel). r.old_sums ≡ sums_at (changed_key r) olds) rows
-  pub new : All (λ (r : ChangedRowModel). r.new_row.sums ≡ sums_at (changed_key r) news) rows
-  pub present : (keys : RowKey → Bool) → list_any (λ r. keys (changed_key r)) rows ≡ (has_within keys olds || has_within keys news)
-  pub order : IsStrictlySortedBy row_key_cmp (map changed_key rows)
+abbrev pub AreCompared : List ShownRowModel → List ShownRowModel → List ChangedRow → Type 0
+AreCompared = AreMerged row_key row_key_cmp changed_key IsRowOf
 
 -- ---- what changed
 
@@ -42,11 +23,11 @@ abbrev pub are_same_sums : Sums → Sums → Bool
 are_same_sums a b = a.files == b.files && a.lines == b.lines && a.blank == b.blank && a.bytes == b.bytes
 
 -- whether any number of a row changed
-abbrev pub differs : ChangedRowModel → Bool
+abbrev pub differs : ChangedRow → Bool
 differs r = not (are_same_sums r.old_sums r.new_row.sums)
 
 -- the rows that are shown: all of them, or those in which a number changed
-abbrev pub kept_rows : Bool → List ChangedRowModel → List ChangedRowModel
+abbrev pub kept_rows : Bool → List ChangedRow → List ChangedRow
 kept_rows all rows = if all then rows else filter differs rows
 
 -- ---- their order
@@ -55,26 +36,29 @@ kept_rows all rows = if all then rows else filter differs rows
 abbrev pub distance : ℕ → ℕ → ℕ
 distance a b = (a - b) + (b - a)
 
-abbrev pub row_change : Number → ChangedRowModel → ℕ
+abbrev pub row_change : Number → ChangedRow → ℕ
 row_change n r = distance (number_in n r.old_sums) (number_in n r.new_row.sums)
 
--- the order of rows by the change of a number, largest first
-abbrev pub by_change : Number → ChangedRowModel → ChangedRowModel → Ordering
-by_change n a b = nat_cmp (row_change n b) (row_change n a)
+-- the order of lines by the change of a number, largest first, and of lines of equal changes in another order
+abbrev pub largest_first : {L : Type 0} → (Number → L → ℕ) → (L → L → Ordering) → Number → L → L → Ordering
+largest_first change order n = then_cmp (λ a b. nat_cmp (change n b) (change n a)) order
+
+-- lines in the given order, or sorted by a number
+abbrev pub AreSortedBy : {L : Type 0} → (Number → L → L → Ordering) → Option Number → List L → List L → Type 0
+AreSortedBy cmp None lines sorted = sorted ≡ lines
+AreSortedBy cmp (Some n) lines sorted = IsPermutation lines sorted × IsSorted (cmp n) sorted
 
 -- the largest change first, and rows of equal changes by their keys
-abbrev pub change_cmp : Number → ChangedRowModel → ChangedRowModel → Ordering
-change_cmp n = then_cmp (by_change n) (on changed_key row_key_cmp)
+abbrev pub change_cmp : Number → ChangedRow → ChangedRow → Ordering
+change_cmp = largest_first row_change (on changed_key row_key_cmp)
 
--- the rows in the given order, or sorted by the change of a number
-abbrev pub AreChangesSorted : Option Number → List ChangedRowModel → List ChangedRowModel → Type 0
-AreChangesSorted None rows sorted = sorted ≡ rows
-AreChangesSorted (Some n) rows sorted = IsPermutation rows sorted × IsSorted (change_cmp n) sorted
+abbrev pub AreChangesSorted : Option Number → List ChangedRow → List ChangedRow → Type 0
+AreChangesSorted = AreSortedBy change_cmp
 
 -- ---- their sums
 
-abbrev pub old_sums_of : List ChangedRowModel → Sums
-old_sums_of rows = sums_over (λ (r : ChangedRowModel). r.old_sums) rows
+abbrev pub old_sums_of : List ChangedRow → Sums
+old_sums_of rows = sums_over (λ (r : ChangedRow). r.old_sums) rows
 
-abbrev pub new_sums_of : List ChangedRowModel → Sums
-new_sums_of rows = sums_over (λ (r : ChangedRowModel). r.new_row.sums) rows
+abbrev pub new_sums_of : List ChangedRow → Sums
+new_sums_of rows = sums_over (λ (r : ChangedRow). r.new_row.sums) rows

@@ -1,7 +1,6 @@
 -- The parts of two reports whose files changed in given ways from the old report to the new one.
-use Rattle.std.specs.Prelude.{◌≡◌, ℕ, Bool, if◌then◌else◌, List, map, filter, Option, Some, None}
-use Rattle.std.specs.{Bool.MatchBool, List.list_any}
-use Rattle.lc_changes.specs.FileChanges.{FileChangeModel, AreFilesCompared, are_same_counts, changed_path, same_path}
+use Rattle.std.specs.{Prelude.{◌≡◌, ℕ, Bool, if◌then◌else◌, List, map, filter, Option, Some, None}, Bool.MatchBool, List.list_any}
+use Rattle.lc_changes.specs.{FileChanges.{FileChangeModel, AreFilesCompared, are_same_counts, changed_path, same_path}}
 use Rattle.lc_level.specs.Level.{FileLineModel}
 use Rattle.lc_rows.specs.Kept.{IsPartWith}
 use Rattle.lc_sheet.specs.{ChangeKinds.are_all_changes, declared.change_kinds.ChangeKinds.ChangeKinds}

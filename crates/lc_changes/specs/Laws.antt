@@ -1,13 +1,13 @@
 -- What is true of comparisons.
-use Rattle.std.specs.{Prelude.{◌≡◌, ℕ, Bool, false, ◌||◌, List, [], map, Option}, List.{All, list_any}, Option.MatchOption}
-use Rattle.lc_changes.specs.{ChangeSheets.{AreChangesOf, ChangesModel}, ChangeValues.{ChangedSumsModel, changed_sums_value, changed_value}}
-use Rattle.lc_changes.specs.{ChangeValues.file_change_value, Changes.{ChangedRowModel, AreCompared, changed_key, new_sums_of, old_sums_of}}
-use Rattle.lc_changes.specs.{Changes.sums_at, FileChanges.{FileChangeModel, AreFilesCompared, file_path}}
-use Rattle.lc_changes.specs.declared.options.ChangeOptions.{ChangeOptions}
+use Rattle.std.specs.{Prelude.{◌≡◌, ℕ, false, List, [], map, Option}, Option.MatchOption}
+use Rattle.lc_changes.specs.{ChangeSheets.{AreChangesOf, ChangesModel}, ChangeValues.{changed_sums_value, changed_value, file_change_value}}
+use Rattle.lc_changes.specs.{Changes.{AreCompared, new_sums_of, old_sums_of}, declared.changed_row.ChangedRow.ChangedRow}
+use Rattle.lc_changes.specs.{declared.{kinds.sums.ChangedSums.ChangedSums, options.ChangeOptions.ChangeOptions}}
+use Rattle.lc_changes.specs.{FileChanges.{FileChangeModel, AreFilesCompared, file_path}}
 use Rattle.lc_level.specs.Level.{FileLineModel}
-use Rattle.lc_rows.specs.{RowKeys.{RowKey, ShownRowModel, has_within, sums_of_shown}, ShownRows.{AreShown, parts_of}}
+use Rattle.lc_rows.specs.{RowKeys.{ShownRowModel, sums_of_shown}, ShownRows.{AreShown, parts_of}}
 use Rattle.lc_sheet.specs.{Conditions.number_of, Sheets.SectionModel, Values.{ValueModel, difference, growth}}
-use Rattle.lc_sheet.specs.declared.{column.{Column.Column, Number.Number}, form.Form.Form, table_options.Columns.Columns}
+use Rattle.lc_sheet.specs.{declared.{column.{Column.Column, Number.Number}, form.Form.Form, table_options.Columns.Columns}}
 use Rattle.lc_tree.specs.ByteOrder.{AreApart}
 use Rattle.lc_walk.specs.declared.report.Report.{Report}
 use Rattle.lc_sheet.specs.declared.column.Column.TheVariants as column
@@ -33,18 +33,15 @@ SelfLaw =
 
 -- ---- rows, and those of tables
 
--- a row of a comparison has the sums that the tables of both reports show for its key; each key that one of the tables shows has a row; and
--- the rows add up to the same sums as both tables
-pub record HasRowsOf (olds news : List ShownRowModel) (rows : List ChangedRowModel) : Type 0 where
-  pub old : All (λ (r : ChangedRowModel). r.old_sums ≡ sums_at (changed_key r) olds) rows
-  pub new : All (λ (r : ChangedRowModel). r.new_row.sums ≡ sums_at (changed_key r) news) rows
-  pub present : (keys : RowKey → Bool) → list_any (λ r. keys (changed_key r)) rows ≡ (has_within keys olds || has_within keys news)
+-- rows of a comparison are those of both tables; and the rows add up to the same sums as both tables
+pub record HasRowsOf (olds news : List ShownRowModel) (rows : List ChangedRow) : Type 0 where
+  pub compared : AreCompared olds news rows
   pub old_total : old_sums_of rows ≡ sums_of_shown olds
   pub new_total : new_sums_of rows ≡ sums_of_shown news
 
 abbrev pub TablesLaw : Type 0
 TablesLaw =
-    (by : Columns) (sort : Option Number) (old new : Report) (olds news : List ShownRowModel) (rows : List ChangedRowModel)
+    (by : Columns) (sort : Option Number) (old new : Report) (olds news : List ShownRowModel) (rows : List ChangedRow)
     → AreShown by sort old.rows.items old.files.items olds → AreShown by sort new.rows.items new.files.items news
     → AreCompared (parts_of by old.rows.items old.files.items) (parts_of by new.rows.items new.files.items) rows
     → HasRowsOf olds news rows
@@ -54,7 +51,7 @@ TablesLaw =
 -- the parts that the rows of both reports add up determine the rows of their comparison
 abbrev pub RowsOnceLaw : Type 0
 RowsOnceLaw =
-    (olds news : List ShownRowModel) (rows others : List ChangedRowModel) → AreCompared olds news rows → AreCompared olds news others
+    (olds news : List ShownRowModel) (rows others : List ChangedRow) → AreCompared olds news rows → AreCompared olds news others
     → rows ≡ others
 
 -- the files of two reports determine the files of their comparison, if neither report has a path twice
@@ -79,6 +76,6 @@ pub record IsFromOldToNew (value : Column → ValueModel) : Type 0 where
 
 -- changes are from old numbers to new numbers in each line of rows, of sums and of files
 pub record DifferencesLaw : Type 0 where
-  pub rows : (form : Form) (r : ChangedRowModel) → IsFromOldToNew (changed_value form r)
-  pub sums : (form : Form) (s : ChangedSumsModel) → IsFromOldToNew (changed_sums_value form s)
+  pub rows : (form : Form) (r : ChangedRow) → IsFromOldToNew (changed_value form r)
+  pub sums : (form : Form) (s : ChangedSums) → IsFromOldToNew (changed_sums_value form s)
   pub files : (form : Form) (c : FileChangeModel) → IsFromOldToNew (file_change_value form c)

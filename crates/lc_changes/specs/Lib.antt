@@ -1,4 +1,4 @@
-pub mod Pairs
+pub mod Merged
 pub mod Changes
 pub mod FileChanges
 pub mod ChangeColumns

@@ -1,10 +1,8 @@
 //! A line about a file in a comparison: what the old and the new report have at one path.
 
-ghost use Rattle.std.specs.Prelude.{◌≡◌, option_map};
-ghost use Rattle.lc_changes.specs.FileChanges.{are_same_counts, changed_path, compared_key, either_file, file_change};
-ghost use Rattle.lc_changes.specs.FileChanges.{is_changed, side_number};
-ghost use Rattle.lc_changes.specs.ChangeValues.{change_word};
-ghost use Rattle.lc_changes.specs.KeptChanges.{keeps_change};
+ghost use Rattle.std.specs.{Prelude.{◌≡◌, option_map}};
+ghost use Rattle.lc_changes.specs.{FileChanges.{are_same_counts, changed_path, compared_key, either_file, file_change, is_changed}};
+ghost use Rattle.lc_changes.specs.{FileChanges.side_number, ChangeValues.change_word, KeptChanges.keeps_change};
 
 use lc_rows::{RowKeyRef, number_of, split_at_top};
 use lc_sheet::{ChangeKinds, Number};

@@ -1,9 +1,7 @@
 //! The parts of two reports whose files changed in given ways.
 
-ghost use Rattle.std.specs.Prelude.{◌≡◌, filter, map, IfOk, OnOk};
-ghost use Rattle.std.specs.List.Sorted.{IsStrictlySortedBy};
-ghost use Rattle.lc_changes.specs.FileChanges.{changed_path};
-ghost use Rattle.lc_changes.specs.KeptChanges.{AreKeptParts, AreMarked, has_path, keeps_change, marks_by};
+ghost use Rattle.std.specs.{Prelude.{◌≡◌, filter, IfOk, OnOk}, List.Sorted.IsStrictlySortedBy, Ordering.on};
+ghost use Rattle.lc_changes.specs.{FileChanges.changed_path, KeptChanges.{AreKeptParts, AreMarked, has_path, keeps_change, marks_by}};
 ghost use Rattle.lc_tree.specs.ByteOrder.{bytes_cmp};
 
 use crate::file_change::FileChange;
@@ -22,7 +20,7 @@ fn keep_kinds(kinds: ChangeKinds, attributes: u8, pairs: &mut Vec<FileChange<'_>
 
 /// Returns whether one of these pairs, which are in the order of their paths, has a path. The search is binary.
 fn has_path(pairs: &[FileChange<'_>], path: &[u8]) -> bool
-    requires { IsStrictlySortedBy bytes_cmp (map changed_path pairs.now) }
+    requires { IsStrictlySortedBy (on changed_path bytes_cmp) pairs.now }
     ensures { result ≡ has_path pairs.now path.now }
 {
     pairs
@@ -36,7 +34,7 @@ fn marks_by(
     pairs: &[FileChange<'_>],
     files: &[FileLine],
 ) -> Result<Vec<bool>, AllocError>
-    requires { IsStrictlySortedBy bytes_cmp (map changed_path pairs.now) }
+    requires { IsStrictlySortedBy (on changed_path bytes_cmp) pairs.now }
     ensures { IfOk result (λ marks. marks.items ≡ marks_by pairs.now files.now) }
 {
     let mut marks = Vec::with_capacity(alloc, files.len())?;

@@ -16,12 +16,14 @@ pub fn rows_of_a_comparison_are_those_of_tables()
 
 /// The law that each shown change, also in per cent, is the change from the old report's number to the new report's number. This holds in
 /// each line, whether the line shows a row, sums or a file. If a report lacks a file, the file's numbers in that report are 0.
+#[tactic(auto, using(crate::proofs::Differences::differences_law))]
 pub fn old_numbers_and_changes_add_up_to_new_ones()
     ensures { DifferencesLaw }
 {}
 
 /// The law that two reports have only one comparison: the reports determine its rows and its files. For the files, the law requires that
 /// neither report has two files with the same path.
+#[tactic(auto, using(crate::proofs::OneComparison::one_comparison))]
 pub fn reports_are_compared_in_one_way()
     ensures { OneComparisonLaw }
 {}

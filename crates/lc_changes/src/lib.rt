@@ -1,7 +1,7 @@
 //! The comparison of two reports: the rows and the files in which the reports differ, and the sheet of the comparison.
 //!
 //! - `options`: the options of a comparison
-//! - `pairs`: a step through two sorted lists side by side
+//! - `merge`: merging two sorted lists
 //! - `changed_row`: a row with the sums of both reports
 //! - `rows`: the rows of both reports, paired by their keys
 //! - `file_change`: the files that the two reports have at one path
@@ -24,8 +24,8 @@ mod files;
 mod kept_changes;
 mod kinds;
 mod laws;
+mod merge;
 mod options;
-mod pairs;
 mod rows;
 mod shown_changes;
 mod sorting;

@@ -1,63 +1,64 @@
 //! The rows of two reports side by side.
 
-ghost use Rattle.std.specs.Prelude.{◌≡◌, Some, None, IfOk};
-ghost use Rattle.std.specs.Option.{MatchOption};
-ghost use Rattle.lc_changes.specs.Changes.{AreCompared, row_of_pair};
-ghost use Rattle.lc_changes.specs.Pairs.{AreMadeOfPairs, next_of};
-ghost use Rattle.lc_rows.specs.RowKeys.{AreInRowOrder, row_key, row_key_cmp};
-ghost use Rattle.lc_rows.specs.ShownRows.{parts_of};
+ghost use Rattle.std.specs.{Prelude.{◌≡◌, IfOk, option_map}, Option.option_to_list};
+ghost use Rattle.lc_changes.specs.Changes.{AreCompared};
+ghost use Rattle.lc_rows.specs.{RowKeys.sums_of_shown, ShownRows.parts_of};
 
 use crate::changed_row::ChangedRow;
-use crate::pairs::left_of;
+use crate::merge::{Keyed, merged};
 use lc_rows::{ShownRow, added_rows};
 use lc_sheet::Columns;
-use lc_walk::Report;
+use lc_walk::{Report, Sums};
 use std::alloc::{AllocError, Global};
 use std::cmp::Ordering;
 
-/// Compares the first rows of two lists that are in the order of keys. Returns the row with the least key, and for each list whether it
-/// begins with this key. Returns `None` if both lists are empty.
-fn next_row<'a>(
-    olds: &[ShownRow<'a>],
-    news: &[ShownRow<'a>],
-) -> Option<(ChangedRow<'a>, bool, bool)>
-    ensures { MatchOption result (next_of row_of_pair row_key row_key_cmp olds.now news.now ≡ None)
-        (λ s. next_of row_of_pair row_key row_key_cmp olds.now news.now
-        ≡ Some (record { line = s.0; from_old = s.1; from_new = s.2 })) }
+/// Returns the sums of a row, or zeros if a report lacks the row.
+#[tactic(auto, using(crate::proofs::RowsCompared::sums_of_one))]
+fn sums_of(row: Option<&ShownRow<'_>>) -> Sums
+    ensures { result ≡ sums_of_shown (option_to_list (option_map (λ r. r.now) row.entry)) }
 {
-    match (olds.split_first(), news.split_first()) {
-        (None, None) => None,
-        (Some((old, _)), None) => Some((ChangedRow::removed(old), true, false)),
-        (None, Some((new, _))) => Some((ChangedRow::added(new), false, true)),
-        (Some((old, _)), Some((new, _))) => {
-            Some(match old.key.compare(&new.key) {
-                Ordering::Less => (ChangedRow::removed(old), true, false),
-                Ordering::Equal => (ChangedRow::both(old, new), true, true),
-                Ordering::Greater => (ChangedRow::added(new), false, true),
-            })
-        }
+    match row {
+        None => Sums::none(),
+        Some(row) => row.sums,
     }
 }
 
-/// Pairs the rows of two lists by their keys. Both lists, and the result, are in the order of keys.
-fn paired_rows<'s, 'a>(
-    alloc: Global,
-    olds: &'s [ShownRow<'a>],
-    news: &'s [ShownRow<'a>],
-) -> Result<Vec<ChangedRow<'a>>, AllocError>
-    requires olds { AreInRowOrder olds.now }
-    requires news { AreInRowOrder news.now }
-    ensures { IfOk result (λ rows. AreMadeOfPairs row_of_pair row_key row_key_cmp olds.now news.now rows.items) }
-{
-    let mut rows = Vec::new(alloc);
-    let mut olds = olds;
-    let mut news = news;
-    'pairs: while let Some((row, from_old, from_new)) = next_row(olds, news) {
-        rows.push(row)?;
-        olds = left_of(from_old, olds);
-        news = left_of(from_new, news);
+impl<'a> Keyed for ShownRow<'a> {
+    ghost use Rattle.lc_changes.specs.Changes.{IsRowOf, changed_key};
+    ghost use Rattle.lc_rows.proofs.SameKeys.{exact_row_keys, row_key_cmp_total};
+    ghost use Rattle.lc_rows.specs.RowKeys.{RowKey, row_key, row_key_cmp};
+
+    type Line = ChangedRow<'a>;
+
+    ghost Key = { RowKey };
+
+    ghost key = { row_key };
+
+    ghost cmp = { row_key_cmp };
+
+    ghost line_key = { changed_key };
+
+    ghost is_of = { IsRowOf };
+
+    fn compare(&self, other: &ShownRow<'a>) -> Ordering {
+        self.key.compare(&other.key)
     }
-    Ok(rows)
+
+    fn line(old: Option<&ShownRow<'a>>, new: Option<&ShownRow<'a>>) -> Option<ChangedRow<'a>> {
+        let row = new.or(old)?;
+        let new_row = ShownRow {
+            key: row.key.copied(),
+            sums: sums_of(new),
+        };
+        Some(ChangedRow {
+            new_row,
+            old_sums: sums_of(old),
+        })
+    }
+
+    ghost total = { row_key_cmp_total };
+
+    ghost exact = { exact_row_keys };
 }
 
 /// Adds up the counts of two reports by these columns, and pairs the sums of both reports for each key, in the order of keys.
@@ -75,6 +76,6 @@ pub(crate) fn compared_rows<'a>(
 {
     let olds = added_rows(alloc, &old.rows, &old.files, by)?;
     let news = added_rows(alloc, &new.rows, &new.files, by)?;
-    let rows = paired_rows(alloc, &olds, &news)?;
+    let rows = merged(alloc, &olds, &news)?;
     Ok(rows)
 }

@@ -1,10 +1,8 @@
 //! What a comparison of two reports shows, and its sheet.
 
-ghost use Rattle.std.specs.Prelude.{◌≡◌, IfOk};
-ghost use Rattle.std.specs.List.{list_any};
+ghost use Rattle.std.specs.{Prelude.{◌≡◌, IfOk}, List.list_any};
 ghost use Rattle.lc_changes.specs.ChangeSheets.{AreChangesOf, HasFilesFor, comparison_of, form_by, other_sums, some_differ};
-ghost use Rattle.lc_changes.specs.Changes.{differs};
-ghost use Rattle.lc_changes.specs.FileChanges.{is_changed};
+ghost use Rattle.lc_changes.specs.{Changes.differs, FileChanges.is_changed};
 ghost use Rattle.lc_rows.specs.Views.{first_of};
 
 use crate::changed_row::ChangedRow;

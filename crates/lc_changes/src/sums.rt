@@ -1,8 +1,7 @@
 //! The sums over the rows of a comparison.
 
-ghost use Rattle.std.specs.Prelude.{◌≡◌, IfOk};
-ghost use Rattle.lc_changes.specs.ChangeSheets.{other_sums, total_sums};
-ghost use Rattle.lc_changes.specs.Changes.{new_sums_of, old_sums_of};
+ghost use Rattle.std.specs.{Prelude.{◌≡◌, IfOk}};
+ghost use Rattle.lc_changes.specs.{ChangeSheets.{other_sums, total_sums}, Changes.{new_sums_of, old_sums_of}};
 
 use crate::changed_row::ChangedRow;
 use crate::kinds::ChangedSums;
@@ -10,24 +9,17 @@ use lc_rows::NamedSums;
 use lc_walk::{Report, Sums};
 use std::alloc::{AllocError, Global};
 
-fn old_sums_of(rows: &[ChangedRow<'_>]) -> Result<Sums, AllocError>
-    ensures { IfOk result (λ sums. sums ≡ old_sums_of rows.now) }
+/// Adds up the old sums of rows, and the new sums.
+fn both_sums_of(rows: &[ChangedRow<'_>]) -> Result<(Sums, Sums), AllocError>
+    ensures { IfOk result (λ sums. (sums.0 ≡ old_sums_of rows.now) × (sums.1 ≡ new_sums_of rows.now)) }
 {
-    let mut sums = Sums::none();
+    let mut old = Sums::none();
+    let mut new = Sums::none();
     for row in rows {
-        sums = sums.checked_add(row.old_sums).ok_or(AllocError)?;
+        old = old.checked_add(row.old_sums).ok_or(AllocError)?;
+        new = new.checked_add(row.new_row.sums).ok_or(AllocError)?;
     }
-    Ok(sums)
-}
-
-fn new_sums_of(rows: &[ChangedRow<'_>]) -> Result<Sums, AllocError>
-    ensures { IfOk result (λ sums. sums ≡ new_sums_of rows.now) }
-{
-    let mut sums = Sums::none();
-    for row in rows {
-        sums = sums.checked_add(row.new_row.sums).ok_or(AllocError)?;
-    }
-    Ok(sums)
+    Ok((old, new))
 }
 
 /// Makes a line of the sums over these rows, or no line if there are no rows. An error means that an allocation failed or that sums
@@ -42,8 +34,7 @@ pub(crate) fn other_sums(
     if rows.is_empty() {
         return Ok(lines);
     }
-    let new = new_sums_of(rows)?;
-    let old = old_sums_of(rows)?;
+    let (old, new) = both_sums_of(rows)?;
     lines.push(ChangedSums {
         new_sums: NamedSums {
             name: "others",

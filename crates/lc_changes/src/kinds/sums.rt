@@ -1,12 +1,14 @@
-//! The lines of a comparison's sheet that show sums, such as the total: which value a line of sums has in each column.
+//! The lines of a comparison's sheet that show sums of both reports: which value a row, or a line such as the total, has in each column.
 
 ghost use Rattle.std.specs.Prelude.{◌≡◌};
-ghost use Rattle.lc_changes.specs.ChangeValues.{changed_sums_value};
+ghost use Rattle.lc_changes.specs.ChangeValues.{changed_sums_value, changed_value, compared_value};
+ghost use Rattle.lc_sheet.specs.Values.{value_model};
 
-use lc_rows::{NamedSums, Totals, number_in};
+use crate::changed_row::ChangedRow;
+use lc_rows::{NamedSums, Rows, Totals, number_in};
 use lc_sheet::{Column, Compared, Form, Lines, Value};
 use lc_walk::Sums;
-use std::marker::Model;
+use std::marker::PhantomData;
 
 /// Sums of both reports, with the name under which they are shown.
 #[derive(Drop)]
@@ -17,12 +19,46 @@ pub struct ChangedSums {
     pub old_sums: Sums,
 }
 
-impl Model for ChangedSums {
-    ghost use Rattle.lc_changes.specs.ChangeValues.{ChangedSumsModel};
+/// Returns the value of sums of both reports in a column that shows their numbers, or else the value `other`.
+fn compared_value(old: Sums, new: Sums, column: Column, other: Value<'_>) -> Value<'_>
+    ensures { value_model result ≡ compared_value old new column (value_model other.entry) }
+{
+    match column {
+        Column::Old(Compared::Number(number)) => Value::Number(number_in(number, old)),
+        Column::New(Compared::Number(number)) => Value::Number(number_in(number, new)),
+        Column::Difference(number) => Value::Difference {
+            old: number_in(number, old),
+            new: number_in(number, new),
+        },
+        Column::Growth(number) => Value::Growth {
+            old: number_in(number, old),
+            new: number_in(number, new),
+        },
+        _ => other,
+    }
+}
 
-    ghost Value = { ChangedSumsModel };
+/// Says which value a row of a comparison has in each column of a sheet. The struct holds no data: it only implements `Lines` for rows with
+/// the sums of two reports.
+#[derive(Drop)]
+pub struct Changes<'a> {
+    rows: PhantomData<&'a ()>,
+}
 
-    ghost view = { λ s. record { new_sums = s.new_sums; old_sums = s.old_sums } };
+impl<'a> Lines for Changes<'a> {
+    type Line = ChangedRow<'a>;
+
+    ghost value_in = { changed_value };
+
+    fn value<'l>(line: &'l ChangedRow<'a>, form: Form, column: Column) -> Value<'l> {
+        let row = &line.new_row;
+        compared_value(
+            line.old_sums,
+            row.sums,
+            column,
+            Rows::value(row, form, column),
+        )
+    }
 }
 
 /// Says which value a line of sums, such as the total, has in each column of a comparison's sheet. The struct is empty: it only implements
@@ -36,23 +72,12 @@ impl Lines for ChangedTotals {
     ghost value_in = { changed_sums_value };
 
     fn value<'l>(line: &'l ChangedSums, form: Form, column: Column) -> Value<'l> {
-        match column {
-            Column::Old(Compared::Number(number)) => {
-                Value::Number(number_in(number, line.old_sums))
-            }
-            Column::New(Compared::Number(number)) => {
-                Value::Number(number_in(number, line.new_sums.sums))
-            }
-            Column::Difference(number) => Value::Difference {
-                old: number_in(number, line.old_sums),
-                new: number_in(number, line.new_sums.sums),
-            },
-            Column::Growth(number) => {
-                let old = number_in(number, line.old_sums);
-                let new = number_in(number, line.new_sums.sums);
-                Value::Growth { old, new }
-            }
-            _ => Totals::value(&line.new_sums, form, column),
-        }
+        let sums = &line.new_sums;
+        compared_value(
+            line.old_sums,
+            sums.sums,
+            column,
+            Totals::value(sums, form, column),
+        )
     }
 }

@@ -1,6 +1,0 @@
-use Rattle.std.proofs.Common.{◌≡◌, take}
-use Rattle.lc_changes.specs.Changes.{old_sums_of}
-use Rattle.lc_changes.proofs.sums.old_sums_of.Given as goal
-
-abbrev pub invariant-loop-row : goal.invariant-loop-row
-invariant-loop-row l = l.sums ≡ old_sums_of (take l.row-index l.rows)
