@@ -4,7 +4,7 @@ use Rattle.std.proofs.{Common.{map, take, get_or, refl, sym, ap, ap₂, subst, a
 use Rattle.std.proofs.lemmas.List.{append-nil, get_or-map, length-map, map-append, take_more, Elements.{All-cons, All-nil, filter-append}}
 use Rattle.std.proofs.lemmas.List.Folds.{list_any_at}
 use Rattle.std.proofs.lemmas.Slice.Eq.{bytes_eq-Decides}
-use Rattle.std.specs.{Prelude.{codes, pos, Option, Some}, List.{All, list_any, slice_index_or}, Str.bytes_eq}
+use Rattle.std.specs.{Prelude.{pos, Option, Some}, List.{All, list_any, slice_index_or}, Str.bytes_eq}
 use Rattle.clap.specs.{Built.{AddsArg, AddsInTurn, AddsSubcommand, FitsChain, HasDistinctIds}, Lexer.without_minus, Matches.found_of}
 use Rattle.clap.specs.{Matches.one_text, Values.IsSignedIn}
 use Rattle.clap.specs.declared.builder.{arg.Arg.Arg, command.Command.{Command, TheViews.out-Command}}

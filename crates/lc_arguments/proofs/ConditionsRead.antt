@@ -1,5 +1,5 @@
 -- The conditions that texts write.
-use Rattle.std.proofs.{Common.{arith, ◌≡◌, ◌∙◌, ◌&&◌, ℕ, Bool, true, false, List, [], ◌∷◌, ◌++◌, Option, Some, None, cond, is_some, ap, sym}}
+use Rattle.std.proofs.{Common.{arith, ◌≡◌, ◌∙◌, ◌&&◌, ℕ, true, false, List, [], ◌∷◌, ◌++◌, Option, Some, None, cond, is_some, ap, sym}}
 use Rattle.std.proofs.Common.{◌≤◌, ◌-◌, append_assoc, drop, get_or, length, map, refl, subst, take}
 use Rattle.std.specs.Borrow.{Bor}
 use Rattle.std.proofs.lemmas.{Grind.common_steps, List.append-nil}

@@ -8,6 +8,7 @@ use Rattle.lc_sheet.specs.declared.table_options.Output.{Output, TheVariants.{Te
 use Rattle.lc_sheet.specs.declared.table_options.Order.{Order, TheVariants.Name}
 use Rattle.lc_arguments.specs.declared.{count.CountRequest.CountRequest, diff.DiffRequest.DiffRequest, sum.SumRequest.SumRequest}
 use Rattle.lc_arguments.specs.declared.{walk_request.WalkRequest.WalkRequest, table.TableRequest.TableRequest}
+use Rattle.lc_arguments.specs.declared.request.Request.{Request, TheVariants.{Count, Diff, Sum}}
 
 -- the named format shows each row's share of the total if `--share` is used; without a named format, `--share` means a table, which does
 abbrev pub shows_shares : Option Output → Bool
@@ -103,3 +104,10 @@ reads_input_once d =
 -- is read once
 abbrev pub diff_fits : DiffRequest → Bool
 diff_fits d = shows_differences d.table.format && (table_fits d.table false && (walk_fits d.walk && reads_input_once d))
+
+-- the options of a request can be combined
+abbrev pub fits : Request → Bool
+fits (Count c) = fit_together c
+fits (Sum s) = sum_fits s
+fits (Diff d) = diff_fits d
+fits other = true

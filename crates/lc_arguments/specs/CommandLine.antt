@@ -66,30 +66,9 @@ command_name Languages = codes "languages"
 abbrev pub command_app : Subcommand → App
 command_app command = app_with (command_name command) (rules_in command options)
 
-abbrev pub count_app : App
-count_app = command_app Count
-
-abbrev pub check_app : App
-check_app = command_app Check
-
-abbrev pub explain_app : App
-explain_app = command_app Explain
-
-abbrev pub sum_app : App
-sum_app = command_app Sum
-
-abbrev pub diff_app : App
-diff_app = command_app Diff
-
-abbrev pub languages_app : App
-languages_app = command_app Languages
-
 -- the program without commands and arguments, for words that name no command
 abbrev pub bare_lc_app : App
 bare_lc_app = on_top (λ (s : Shape). record s { no_binary_name = true; has_version = true; has_long_version = true }) (new_app (codes "lc"))
-
-abbrev pub subcommand_apps : List App
-subcommand_apps = count_app ∷ sum_app ∷ diff_app ∷ check_app ∷ explain_app ∷ languages_app ∷ []
 
 -- a command with each of these subcommands added, in their order
 abbrev pub with_subcommands : App → List App → App
@@ -97,4 +76,9 @@ with_subcommands a [] = a
 with_subcommands a (s ∷ ss) = with_subcommands (with_subcommand a s.top) ss
 
 abbrev pub lc_app : App
-lc_app = with_subcommands bare_lc_app subcommand_apps
+lc_app = with_subcommands bare_lc_app (map command_app (Count ∷ Sum ∷ Diff ∷ Check ∷ Explain ∷ Languages ∷ []))
+
+-- what reads words: a command, or the program for words that name none
+abbrev pub app_by : Option Subcommand → App
+app_by None = lc_app
+app_by (Some command) = command_app command

@@ -1,24 +1,20 @@
 -- What an error of clap becomes.
-use Rattle.std.specs.{Prelude.{◌≡◌, ◌≢◌, ◌⊎◌, ◌++◌, ◌∷◌, ℕ, Bool, true, false, List, [], map, codes, Result, Ok, Err, Option, option_map}, Global.Vec}
+use Rattle.std.specs.{Prelude.{◌≡◌, ◌≢◌, ◌++◌, ◌∷◌, ℕ, Bool, true, false, List, [], map, codes, Result, Ok, Err, Option, option_map}, Global.Vec}
 use Rattle.std.specs.{List.{list_all, list_any}, Borrow.Bor}
-use Rattle.clap.specs.{Faults.fault_of, Simple.{App, matches_of}, Values.kind_of, declared.error.Error.Error}
+use Rattle.clap.specs.{Faults.fault_of, Simple.matches_of, Values.kind_of, declared.error.Error.Error}
 use Rattle.clap.specs.{declared.{error.kind.ErrorKind.TheVariants.OutOfMemory, parser.matches.Found.Found}, Walk.{Row, rows_of}}
-use Rattle.lc_arguments.specs.CommandLine.{check_app, command_app, count_app, diff_app, explain_app, lc_app, rules_in, sum_app}
-use Rattle.lc_arguments.specs.Words.{IsText, IsNoRequestBy, IsCheckOf, IsExplainOf, MayRefuse, MayShow, AsksNoCount, AsksNoSum}
-use Rattle.lc_arguments.specs.Words.{AsksNoTable, AreAttributesOf, AreFiltersOf, ChoosesNone, IsFitCountOf, IsFitSumOf, AreConditionsOf, IsOneSided}
-use Rattle.lc_arguments.specs.Words.{IsWholeTableIn, Misstates, Misvalue, conditions_read}
+use Rattle.lc_arguments.specs.CommandLine.{command_app, rules_in}
+use Rattle.lc_arguments.specs.Words.{AreChosenBy, AreFiltersOf, AsksNoTable, AsksNoWalk, ChoosesNone, IsAskedBy, IsOneSided, IsText, IsWalkOf}
+use Rattle.lc_arguments.specs.Words.{IsWholeTableIn, Misasks, Misstates, Misvalue, conditions_read}
 use Rattle.lc_arguments.specs.ConditionWords.{all_conditions, changes_of, condition_of, conditions_of, is_condition, kinds_left, test_few}
 use Rattle.lc_arguments.specs.{AttributeWords.attributes_asked, declared.conditions.Where.Where}
-use Rattle.lc_arguments.specs.Words.{directories_read, is_bad_part, part_of, reports_read, texts_read, values_read, AsksNoDiff}
-use Rattle.lc_arguments.specs.{Words.{AsksNoWalk, IsFitDiffOf, IsWalkOf}, ReadNumbers.{AreReadBy, AreReadWithin, IsNumberTo}}
+use Rattle.lc_arguments.specs.Words.{directories_read, is_bad_part, part_of, reports_read, texts_read, values_read}
+use Rattle.lc_arguments.specs.ReadNumbers.{AreReadBy, AreReadWithin, IsNumberTo}
 use Rattle.lc_arguments.specs.{Directories.{are_distinct, unslashed}, Repeated.are_allowed, Reports.{name_reports, named_of, report_model}}
 use Rattle.lc_arguments.specs.TableWords.{AreColumnsBy, IsTableBy, order_word, output_word}
 use Rattle.lc_arguments.specs.declared.{repeated.Repeated.Repeated, table.TableRequest.TableRequest}
-use Rattle.lc_arguments.specs.declared.request.ParseExit.{ParseExit, TheVariants.{Shown, Refused, Memory}}
-use Rattle.lc_arguments.specs.declared.request.Request.{Request, TheVariants.CheckJoined}
-use Rattle.lc_arguments.specs.declared.{check.CheckRequest.CheckRequest, count.CountRequest.CountRequest}
-use Rattle.lc_arguments.specs.declared.{filter_request.FilterRequest.FilterRequest, explain.ExplainRequest.ExplainRequest}
-use Rattle.lc_arguments.specs.declared.{reports.NamedReport.NamedReport, sum.SumRequest.SumRequest, diff.DiffRequest.DiffRequest}
+use Rattle.lc_arguments.specs.declared.request.{ParseExit.{ParseExit, TheVariants.{Shown, Refused, Memory}}, Request.Request}
+use Rattle.lc_arguments.specs.declared.{filter_request.FilterRequest.FilterRequest, reports.NamedReport.NamedReport}
 use Rattle.lc_arguments.specs.{declared.{option_row.Subcommand.Subcommand, walk_request.WalkRequest.WalkRequest}, Options.options}
 use Rattle.lc_sheet.specs.{Conditions.ConditionModel, declared.change_kinds.ChangeKinds.ChangeKinds}
 use Rattle.lc_sheet.specs.{declared.table_options.{Columns.Columns, Order.Order, Output.Output}}
@@ -44,41 +40,18 @@ abbrev pub AnswersOr : {A : Type 0} → (A → Type 0) → Type 0 → Result A P
 AnswersOr {A} Is No (Ok a) = Is a
 AnswersOr {A} Is No (Err why) = IsRefusedFor No why
 
--- why a command makes no request: clap shows a text, clap refuses the words, or the values that clap read are refused
-abbrev pub IsUnread : App → (List Row → Type 0) → List (List ℕ) → ParseExit → Type 0
-IsUnread app No words (Shown _) = MayShow (fault_of app words)
-IsUnread app No words (Refused _) = MayRefuse (fault_of app words) ⊎ ((fault_of app words ≡ []) × No (matches_of app words))
-IsUnread app No words Memory = Unit {0}
-
--- the request of a command has this property for the values that clap read, or the words make no request for one of these reasons
-abbrev pub AnswersCommand : {A : Type 0} → App → (List Row → A → Type 0) → (List Row → Type 0) → List (List ℕ)
-    → Result A ParseExit → Type 0
-AnswersCommand {A} app Is No words (Ok a) = (fault_of app words ≡ []) × Is (matches_of app words) a
-AnswersCommand {A} app Is No words (Err why) = IsUnread app No words why
-
 -- clap finds no fault in the words after the name of a command, and found this in them; what it read of numbers is within their limits
 pub record IsParsedAs (command : Subcommand) (words : List (List ℕ)) (found : Found) : Type 0 where
   pub faults : fault_of (command_app command) words ≡ []
   pub rows : rows_of found ≡ matches_of (command_app command) words
   pub numbers : AreReadBy (rules_in command options) found
 
--- the request that the values make which clap found, if what clap read of numbers is within their limits; or these values make none
-abbrev pub AnswersIn : {A : Type 0} → Subcommand → (List Row → A → Type 0) → (List Row → Type 0) → Found → Result A ParseExit → Type 0
-AnswersIn {A} command Is No found =
-    AnswersOr (λ (a : A). AreReadBy (rules_in command options) found → Is (rows_of found) a) (No (rows_of found))
-
--- the results of reading the words after `count`, `explain`, `sum` and `diff`
-abbrev pub AnswersCountWords : List (List ℕ) → Result CountRequest ParseExit → Type 0
-AnswersCountWords = AnswersCommand count_app IsFitCountOf AsksNoCount
-
-abbrev pub AnswersExplainWords : List (List ℕ) → Result ExplainRequest ParseExit → Type 0
-AnswersExplainWords = AnswersCommand explain_app IsExplainOf Misvalue
-
-abbrev pub AnswersSumWords : List (List ℕ) → Result SumRequest ParseExit → Type 0
-AnswersSumWords = AnswersCommand sum_app IsFitSumOf AsksNoSum
-
-abbrev pub AnswersDiffWords : List (List ℕ) → Result DiffRequest ParseExit → Type 0
-AnswersDiffWords = AnswersCommand diff_app IsFitDiffOf AsksNoDiff
+-- the request of a command that the values make which clap found, if what clap read of numbers is within their limits; or these values make
+-- none
+abbrev pub AnswersIn : Subcommand → Found → Result Request ParseExit → Type 0
+AnswersIn command found =
+    AnswersOr (λ (request : Request). AreReadBy (rules_in command options) found → IsAskedBy command (rows_of found) request)
+    (Misasks command (rows_of found))
 
 -- the filters that were read, or an option has values that it may not have
 abbrev pub AnswersFilters : List Row → Result FilterRequest ParseExit → Type 0
@@ -109,8 +82,7 @@ AnswersConditions attributes texts no_binary =
 
 -- these are the columns, the conditions and the kinds of files that `--by`, `--where` and `--no-binary` request
 pub record IsWhereOf (rows : List Row) (w : Where) : Type 0 where
-  pub attributes : AreAttributesOf rows w.attributes.items
-  pub conditions : AreConditionsOf rows (map (λ attribute. attribute.now) w.attributes.items) w.conditions.items
+  pub chosen : AreChosenBy rows w.attributes.items w.conditions.items
   pub changes : w.changes ≡ changes_of (conditions_read rows)
 
 -- which files are shown, as it was read; or `--where` has no conditions
@@ -195,13 +167,3 @@ AnswersTableIn rows = AnswersOr (IsWholeTableIn rows) (AsksNoTable rows)
 -- how directories are counted, as it was read, if what clap read of numbers is within their limits; or the options request no walk
 abbrev pub AnswersWalkIn : Found → Result WalkRequest ParseExit → Type 0
 AnswersWalkIn found = AnswersOr (λ (w : WalkRequest). AreReadWithin found → IsWalkOf (rows_of found) w) (AsksNoWalk (rows_of found))
-
--- the result of reading the words after `check`
-abbrev pub AnswersCheckWords : List (List ℕ) → Result CheckRequest ParseExit → Type 0
-AnswersCheckWords words (Ok c) = (fault_of check_app words ≡ []) × IsCheckOf (matches_of check_app words) c
-AnswersCheckWords words (Err why) = IsNoRequestBy (fault_of check_app words) why
-
--- the result of reading words that name no command
-abbrev pub AnswersOthers : List (List ℕ) → Result Request ParseExit → Type 0
-AnswersOthers words (Ok request) = (fault_of lc_app words ≡ []) × (request ≡ CheckJoined)
-AnswersOthers words (Err why) = IsNoRequestBy (fault_of lc_app words) why

@@ -1,10 +1,10 @@
 -- Which arguments a text names: help names the arguments of its command, and a usage error names one argument.
-use Rattle.std.specs.Prelude.{◌≡◌, ◌⊎◌, ◌&&◌, not, ℕ, Bool, true, false, cond, is_some, bytes_eq, List, [], ◌∷◌, ◌++◌, codes}
+use Rattle.std.specs.Prelude.{◌≡◌, ◌⊎◌, ◌&&◌, not, ℕ, Bool, true, false, is_some, bytes_eq, List, [], ◌∷◌, ◌++◌, codes}
 use Rattle.std.specs.{Prelude.{Option, Some, None, ⊤, string_bytes}, Str.Iter.HasSubslice}
 use Rattle.lc_text.specs.Visible.{visible_bytes}
-use Rattle.lc_arguments.specs.{Options.{OptionModel, is_of, options}, Words.{count_words, is_own_option}}
+use Rattle.lc_arguments.specs.{Options.{OptionModel, is_of, options}, Words.{asked_by, is_own_option}}
 use Rattle.lc_arguments.specs.declared.option_row.Kind.{Kind, TheVariants.{Word, Words}}
-use Rattle.lc_arguments.specs.declared.option_row.Subcommand.{Subcommand, TheVariants.{Count, Explain, Check, Diff, Languages, Sum}}
+use Rattle.lc_arguments.specs.declared.option_row.Subcommand.{Subcommand}
 use Rattle.lc_arguments.specs.declared.request.ParseExit.{ParseExit, TheVariants.{Shown, Refused, Memory}}
 
 -- what a message of clap has before and after the name of an argument: the hyphens of an option; or, without a hyphen, `<` and `>` around a
@@ -31,15 +31,8 @@ NamesAll command [] text = ⊤
 NamesAll command (o ∷ os) text = (is_of command o.of ≡ true → Names text o) × NamesAll command os text
 
 -- the command that words name
-abbrev pub named_by : List ℕ → Option Subcommand
-named_by word =
-    cond (bytes_eq word (codes "check")) (Some Check)
-    (cond (bytes_eq word (codes "explain")) (Some Explain) (cond (bytes_eq word (codes "sum")) (Some Sum)
-    (cond (bytes_eq word (codes "diff")) (Some Diff) (cond (bytes_eq word (codes "languages")) (Some Languages) None))))
-
 abbrev pub named_command : List (List ℕ) → Option Subcommand
-named_command [] = None
-named_command (word ∷ words) = cond (is_some (count_words (word ∷ words))) (Some Count) (named_by word)
+named_command words = (asked_by words).0
 
 -- the first word may be the name of a directory that begins a count: words name no command by it, and it asks for no help or version
 abbrev pub may_be_directory : List (List ℕ) → Bool

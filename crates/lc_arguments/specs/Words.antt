@@ -1,11 +1,10 @@
 -- The requests that the words of a command line make.
-use Rattle.std.specs.Prelude.{◌≡◌, ◌≢◌, ◌⊎◌, ◌≤◌, ◌==◌, ◌&&◌, ◌||◌, not, ℕ, Bool, true, false, cond, List, [], ◌∷◌, Some, None, Option}
+use Rattle.std.specs.Prelude.{◌≡◌, ◌⊎◌, ◌≤◌, ◌==◌, ◌&&◌, ◌||◌, not, ℕ, Bool, true, false, cond, List, [], ◌∷◌, Some, None, Option}
 use Rattle.std.specs.{Prelude.{Result, Ok, Err, unwrap_or, option_map, map, codes, IfSome}, Borrow.Bor, List.list_any, Str.bytes_eq}
 use Rattle.clap.specs.{Faults.fault_of, Kinds.{IsAmong, Kinds}, Simple.matches_of, Walk.{Row, all_of, first_of, one_of}}
 use Rattle.clap.specs.declared.error.kind.ErrorKind.{ErrorKind, TheVariants.{DisplayHelp, DisplayVersion}}
 use Rattle.lc_glob.specs.{Bytes.{hyphen, slash}, Pieces.is_byte}
-use Rattle.lc_arguments.specs.CommandLine.{count_app, check_app, diff_app, explain_app, languages_app, lc_app, sum_app}
-use Rattle.lc_arguments.specs.{AttributeWords.attributes_asked, Combinations.{diff_fits, fit_together, sum_fits}}
+use Rattle.lc_arguments.specs.{AttributeWords.attributes_asked, Combinations.fits, CommandLine.{app_by, command_app}}
 use Rattle.lc_arguments.specs.Options.{max_depth, max_dirs, max_threads, max_top}
 use Rattle.lc_arguments.specs.ConditionWords.{all_conditions, are_conditions, changes_of, compares_sides}
 use Rattle.lc_arguments.specs.{Directories.{are_distinct, or_default, unslashed}, Repeated.{are_allowed, id_of}}
@@ -13,6 +12,8 @@ use Rattle.lc_arguments.specs.declared.repeated.Repeated.{Repeated, TheVariants.
 use Rattle.lc_arguments.specs.declared.{reports.NamedReport.NamedReport, diff.DiffRequest.DiffRequest, sum.SumRequest.SumRequest}
 use Rattle.lc_arguments.specs.declared.walk_request.WalkRequest.{WalkRequest}
 use Rattle.lc_arguments.specs.declared.request.ParseExit.{ParseExit, TheVariants.{Shown, Refused, Memory}}
+use Rattle.lc_arguments.specs.declared.option_row.Subcommand.{Subcommand}
+use Rattle.lc_arguments.specs.declared.option_row.Subcommand.TheVariants as command
 use Rattle.lc_arguments.specs.declared.request.Request.{Request, TheVariants.{CheckJoined, Check, Count, Diff, Explain, Languages, Sum}}
 use Rattle.lc_arguments.specs.declared.{table.TableRequest.TableRequest, check.CheckRequest.CheckRequest, count.CountRequest.CountRequest}
 use Rattle.lc_arguments.specs.declared.{filter_request.FilterRequest.FilterRequest, explain.ExplainRequest.ExplainRequest}
@@ -121,17 +122,14 @@ pub record AreFiltersOf (rows : List Row) (e : FilterRequest) : Type 0 where
 abbrev pub conditions_read : List Row → List (List ℕ)
 conditions_read rows = texts_read (codes "where") rows
 
--- these are the columns of attributes and of languages that `--by` and `--where` name
-abbrev pub AreAttributesOf : List Row → List (Bor (List ℕ)) → Type 0
-AreAttributesOf rows attributes =
-    map (λ attribute. attribute.now) attributes ≡ attributes_asked (first_of (codes "by") rows) (conditions_read rows)
-
--- these are the conditions that `--where` and `--no-binary` request, if these columns are asked for
-pub record AreConditionsOf (rows : List Row) (attributes : List (List ℕ)) (cs : List ConditionModel) : Type 0 where
+-- these are the columns of attributes and of languages that `--by` and `--where` name, and the conditions that `--where` and `--no-binary`
+-- request
+pub record AreChosenBy (rows : List Row) (attributes : List (Bor (List ℕ))) (conditions : List ConditionModel) : Type 0 where
+  pub columns : map (λ attribute. attribute.now) attributes ≡ attributes_asked (first_of (codes "by") rows) (conditions_read rows)
   pub allowed : are_conditions (conditions_read rows) ≡ true
   pub no_binary : Bool
   pub flag : IsFlag (codes "no-binary") rows no_binary
-  pub are : cs ≡ all_conditions attributes (conditions_read rows) no_binary
+  pub are : conditions ≡ all_conditions (map (λ attribute. attribute.now) attributes) (conditions_read rows) no_binary
 
 -- a condition of `--where` is on `change`, which compares two sides; or none is
 abbrev pub ComparesSides : List Row → Type 0
@@ -195,24 +193,10 @@ pub record IsCountOf (rows : List Row) (c : CountRequest) : Type 0 where
   pub walk : IsWalkOf rows c.walk
   pub left_out : IsFlag (codes "left-out") rows c.left_out
   pub table : IsWholeTableIn rows c.table
-  pub attributes : AreAttributesOf rows c.attributes.items
+  pub chosen : AreChosenBy rows c.attributes.items c.conditions.items
   pub one_sided : IsOneSided rows
-  pub conditions : AreConditionsOf rows (map (λ attribute. attribute.now) c.attributes.items) c.conditions.items
   pub fail_if_any : IsFlag (codes "fail-if-any") rows c.fail_if_any
   pub directories : AreDirectoriesOf rows c.directories.items
-
--- this is the requested count, and its options fit together
-abbrev pub IsFitCountOf : List Row → CountRequest → Type 0
-IsFitCountOf rows c = IsCountOf rows c × (fit_together c ≡ true)
-
--- the arguments request a count whose options do not fit together
-abbrev pub Misfit : List Row → Type 0
-Misfit rows = (c : CountRequest) × IsCountOf rows c × (fit_together c ≡ false)
-
--- the arguments request no count: they request no walk, name a directory twice, request no table, have no conditions of one side, or have
--- options that do not fit together
-abbrev pub AsksNoCount : List Row → Type 0
-AsksNoCount rows = AsksNoWalk rows ⊎ (NamesOneTwice rows ⊎ (AsksNoTable rows ⊎ (ChoosesNone rows ⊎ Misfit rows)))
 
 -- the words that name reports, or `-`, standard input, alone if there are none
 abbrev pub reports_read : List Row → List (List ℕ)
@@ -231,49 +215,22 @@ pub record IsSumOf (rows : List Row) (s : SumRequest) : Type 0 where
   pub left_out : IsFlag (codes "left-out") rows s.left_out
   pub null : IsFlag (codes "null") rows s.null
   pub table : IsWholeTableIn rows s.table
-  pub attributes : AreAttributesOf rows s.attributes.items
+  pub chosen : AreChosenBy rows s.attributes.items s.conditions.items
   pub one_sided : IsOneSided rows
-  pub conditions : AreConditionsOf rows (map (λ attribute. attribute.now) s.attributes.items) s.conditions.items
   pub fail_if_any : IsFlag (codes "fail-if-any") rows s.fail_if_any
   pub reports : AreReportsOf rows s.reports.items
-
--- this is the requested sum, and its options fit together
-abbrev pub IsFitSumOf : List Row → SumRequest → Type 0
-IsFitSumOf rows s = IsSumOf rows s × (sum_fits s ≡ true)
-
--- the arguments request a sum whose options do not fit together
-abbrev pub MisfitSum : List Row → Type 0
-MisfitSum rows = (s : SumRequest) × IsSumOf rows s × (sum_fits s ≡ false)
-
--- the arguments request no sum: they name no report, request no table, have no conditions of one side, or have options that do not fit
--- together
-abbrev pub AsksNoSum : List Row → Type 0
-AsksNoSum rows = MisnamesReports rows ⊎ (AsksNoTable rows ⊎ (ChoosesNone rows ⊎ MisfitSum rows))
 
 -- this is the difference that the arguments request; its options may not fit together
 pub record IsDiffOf (rows : List Row) (d : DiffRequest) : Type 0 where
   pub walk : IsWalkOf rows d.walk
   pub table : IsPlainTableIn rows d.table
   pub no_share : d.table.share ≡ false
-  pub attributes : AreAttributesOf rows d.attributes.items
-  pub conditions : AreConditionsOf rows (map (λ attribute. attribute.now) d.attributes.items) d.conditions.items
+  pub chosen : AreChosenBy rows d.attributes.items d.conditions.items
   pub changes : d.changes ≡ changes_of (conditions_read rows)
   pub fail_if_any : IsFlag (codes "fail-if-any") rows d.fail_if_any
   pub all : IsFlag (codes "all") rows d.all
   pub old : d.old.now ≡ unwrap_or (first_of (codes "OLD") rows) []
   pub new : d.new.now ≡ unwrap_or (first_of (codes "NEW") rows) []
-
--- this is the requested difference, and its options fit together
-abbrev pub IsFitDiffOf : List Row → DiffRequest → Type 0
-IsFitDiffOf rows d = IsDiffOf rows d × (diff_fits d ≡ true)
-
--- the arguments request a difference whose options do not fit together
-abbrev pub MisfitDiff : List Row → Type 0
-MisfitDiff rows = (d : DiffRequest) × IsDiffOf rows d × (diff_fits d ≡ false)
-
--- the arguments request no difference: they request no walk, request no table, have no conditions, or have options that do not fit together
-abbrev pub AsksNoDiff : List Row → Type 0
-AsksNoDiff rows = AsksNoWalk rows ⊎ (AsksNoTable rows ⊎ (Misstates rows ⊎ MisfitDiff rows))
 
 -- this is the check that the arguments request
 pub record IsCheckOf (rows : List Row) (c : CheckRequest) : Type 0 where
@@ -287,6 +244,30 @@ pub record IsExplainOf (rows : List Row) (c : ExplainRequest) : Type 0 where
   pub null : IsFlag (codes "null") rows c.null
   pub directory : c.directory.now ≡ unwrap_or (first_of (codes "DIR") rows) []
   pub paths : map (λ path. path.now) c.paths.items ≡ texts_read (codes "PATH") rows
+
+-- this is the request that the arguments of a command make; its options may not fit together
+abbrev pub IsAskedBy : Subcommand → List Row → Request → Type 0
+IsAskedBy command.Count rows (Count c) = IsCountOf rows c
+IsAskedBy command.Explain rows (Explain e) = IsExplainOf rows e
+IsAskedBy command.Check rows (Check c) = IsCheckOf rows c
+IsAskedBy command.Sum rows (Sum s) = IsSumOf rows s
+IsAskedBy command.Diff rows (Diff d) = IsDiffOf rows d
+IsAskedBy command.Languages rows Languages = Unit {0}
+IsAskedBy command rows request = ⊥
+
+-- values of the arguments of a command are refused: they request no walk, name a directory twice, request no table, have no conditions
+-- of one side, or name no report
+abbrev pub Misasks : Subcommand → List Row → Type 0
+Misasks command.Count rows = AsksNoWalk rows ⊎ (NamesOneTwice rows ⊎ (AsksNoTable rows ⊎ ChoosesNone rows))
+Misasks command.Explain rows = Misvalue rows
+Misasks command.Check rows = ⊥
+Misasks command.Sum rows = MisnamesReports rows ⊎ (AsksNoTable rows ⊎ ChoosesNone rows)
+Misasks command.Diff rows = AsksNoWalk rows ⊎ (AsksNoTable rows ⊎ Misstates rows)
+Misasks command.Languages rows = ⊥
+
+-- the arguments of a command make no request, or one whose options do not fit together
+abbrev pub AsksNothing : Subcommand → List Row → Type 0
+AsksNothing command rows = Misasks command rows ⊎ ((request : Request) × IsAskedBy command rows request × (fits request ≡ false))
 
 -- an error of this kind shows a requested text, help or the version; `MayShow`: one of the kinds does so; `MayRefuse`: one of them does not
 abbrev pub IsText : ErrorKind → Type 0
@@ -328,69 +309,65 @@ count_words [] = None
 count_words (word ∷ words) =
     cond (bytes_eq word (codes "count")) (Some words) (cond (begins_count word) (Some (word ∷ words)) None)
 
--- the ways in which words that request no count fail; a command reads the words after its name
-abbrev pub other_faults_in : List (List ℕ) → Kinds
-other_faults_in [] = []
-other_faults_in (word ∷ words) =
-    cond (bytes_eq word (codes "check")) (fault_of check_app words)
-    (cond (bytes_eq word (codes "explain")) (fault_of explain_app words)
-    (cond (bytes_eq word (codes "sum")) (fault_of sum_app words)
-    (cond (bytes_eq word (codes "diff")) (fault_of diff_app words)
-    (cond (bytes_eq word (codes "languages")) (fault_of languages_app words)
-    (fault_of lc_app (word ∷ words))))))
+-- the command that a first word names, if it begins no count
+abbrev pub named_by : List ℕ → Option Subcommand
+named_by word =
+    cond (bytes_eq word (codes "check")) (Some command.Check)
+    (cond (bytes_eq word (codes "explain")) (Some command.Explain)
+    (cond (bytes_eq word (codes "sum")) (Some command.Sum)
+    (cond (bytes_eq word (codes "diff")) (Some command.Diff)
+    (cond (bytes_eq word (codes "languages")) (Some command.Languages) None))))
+
+-- the command that words name, if they name one, and the words that it reads: those of a count, or those after its name. Words that name no
+-- command are read without one
+abbrev pub asked_with : List ℕ → List (List ℕ) → Option (List (List ℕ)) → Option Subcommand → Option Subcommand × List (List ℕ)
+asked_with word words (Some more) named = (Some command.Count, more)
+asked_with word words None (Some command) = (Some command, words)
+asked_with word words None None = (None, word ∷ words)
+
+abbrev pub asked_by : List (List ℕ) → Option Subcommand × List (List ℕ)
+asked_by [] = (None, [])
+asked_by (word ∷ words) = asked_with word words (count_words (word ∷ words)) (named_by word)
 
 -- the ways in which words fail
 abbrev pub faults_in : List (List ℕ) → Kinds
-faults_in words = unwrap_or (option_map (fault_of count_app) (count_words words)) (other_faults_in words)
+faults_in words = fault_of (app_by (asked_by words).0) (asked_by words).1
 
--- the words request no count, and begin with no other command
-abbrev pub NameNoCommand : List (List ℕ) → Type 0
-NameNoCommand words = (count_words words ≡ None) × ((more : List (List ℕ)) →
-    (words ≢ codes "check" ∷ more) × (words ≢ codes "explain" ∷ more) × (words ≢ codes "sum" ∷ more)
-    × (words ≢ codes "diff" ∷ more) × (words ≢ codes "languages" ∷ more))
+-- words that fail in no way, and that this command reads, or none, make this request
+abbrev pub Makes : Option Subcommand → List (List ℕ) → Request → Type 0
+Makes (Some command) words request =
+    IsAskedBy command (matches_of (command_app command) words) request × (fits request ≡ true)
+Makes None words request = request ≡ CheckJoined
 
 -- words that fail in no way make this request
 abbrev pub Asks : List (List ℕ) → Request → Type 0
-Asks words CheckJoined = NameNoCommand words
-Asks words (Check c) = (more : List (List ℕ)) × (words ≡ codes "check" ∷ more) × IsCheckOf (matches_of check_app more) c
-Asks words (Count c) = (more : List (List ℕ)) × (count_words words ≡ Some more) × IsFitCountOf (matches_of count_app more) c
-Asks words (Explain c) = (more : List (List ℕ)) × (words ≡ codes "explain" ∷ more) × IsExplainOf (matches_of explain_app more) c
-Asks words (Sum s) = (more : List (List ℕ)) × (words ≡ codes "sum" ∷ more) × IsFitSumOf (matches_of sum_app more) s
-Asks words (Diff d) = (more : List (List ℕ)) × (words ≡ codes "diff" ∷ more) × IsFitDiffOf (matches_of diff_app more) d
-Asks words Languages = (more : List (List ℕ)) × (words ≡ codes "languages" ∷ more)
+Asks words request = Makes (asked_by words).0 (asked_by words).1 request
 
--- the words of a count fail in no way in clap, but request no count
-abbrev pub AskForNoCount : List (List ℕ) → Type 0
-AskForNoCount words = (fault_of count_app words ≡ []) × AsksNoCount (matches_of count_app words)
+-- words that this command reads, or none, fail in no way in clap, but make no request
+abbrev pub MakesNothing : Option Subcommand → List (List ℕ) → Type 0
+MakesNothing (Some command) words =
+    (fault_of (command_app command) words ≡ []) × AsksNothing command (matches_of (command_app command) words)
+MakesNothing None words = ⊥
 
--- the words after `explain` fail in no way in clap, but an option has values that it may not have
-abbrev pub AskForNoExplanation : List (List ℕ) → Type 0
-AskForNoExplanation words = (fault_of explain_app words ≡ []) × Misvalue (matches_of explain_app words)
-
--- the words after `sum` fail in no way in clap, but request no sum
-abbrev pub AskForNoSum : List (List ℕ) → Type 0
-AskForNoSum words = (fault_of sum_app words ≡ []) × AsksNoSum (matches_of sum_app words)
-
--- the words after `diff` fail in no way in clap, but request no difference
-abbrev pub AskForNoDiff : List (List ℕ) → Type 0
-AskForNoDiff words = (fault_of diff_app words ≡ []) × AsksNoDiff (matches_of diff_app words)
+-- words are refused that this command reads, or none
+abbrev pub IsRefusedBy : Option Subcommand → List (List ℕ) → Type 0
+IsRefusedBy command words = MayRefuse (fault_of (app_by command) words) ⊎ MakesNothing command words
 
 -- words are refused
 abbrev pub AreRefused : List (List ℕ) → Type 0
-AreRefused words =
-    MayRefuse (faults_in words)
-    ⊎ (((more : List (List ℕ)) × (count_words words ≡ Some more) × AskForNoCount more)
-    ⊎ (((more : List (List ℕ)) × (words ≡ codes "explain" ∷ more) × AskForNoExplanation more)
-    ⊎ (((more : List (List ℕ)) × (words ≡ codes "sum" ∷ more) × AskForNoSum more)
-    ⊎ ((more : List (List ℕ)) × (words ≡ codes "diff" ∷ more) × AskForNoDiff more))))
+AreRefused words = IsRefusedBy (asked_by words).0 (asked_by words).1
 
--- why words make no request; memory may run out for any words
-abbrev pub AskNothing : List (List ℕ) → ParseExit → Type 0
-AskNothing words (Shown _) = MayShow (faults_in words)
-AskNothing words (Refused _) = AreRefused words
-AskNothing words Memory = Unit {0}
+-- why words that this command reads, or none, make no request; memory may run out for any words
+abbrev pub AskNothing : Option Subcommand → List (List ℕ) → ParseExit → Type 0
+AskNothing command words (Shown _) = MayShow (fault_of (app_by command) words)
+AskNothing command words (Refused _) = IsRefusedBy command words
+AskNothing command words Memory = Unit {0}
 
--- the result of reading words: their request, or why they make none
+-- the result of reading the words of this command, or of none: their request, or why they make none
+abbrev pub AnswersAsked : Option Subcommand → List (List ℕ) → Result Request ParseExit → Type 0
+AnswersAsked command words (Ok request) = (fault_of (app_by command) words ≡ []) × Makes command words request
+AnswersAsked command words (Err why) = AskNothing command words why
+
+-- the result of reading words
 abbrev pub AnswersWords : List (List ℕ) → Result Request ParseExit → Type 0
-AnswersWords words (Ok request) = (faults_in words ≡ []) × Asks words request
-AnswersWords words (Err why) = AskNothing words why
+AnswersWords words = AnswersAsked (asked_by words).0 (asked_by words).1

@@ -1,12 +1,12 @@
 //! The command line of `lc check`.
 
-ghost use Rattle.std.specs.Prelude.{map};
-ghost use Rattle.lc_arguments.specs.Explained.{AnswersCheckWords};
+ghost use Rattle.clap.specs.Matches.{found_of};
+ghost use Rattle.clap.specs.Walk.{rows_of};
+ghost use Rattle.lc_arguments.specs.Words.{IsAskedBy};
+ghost use Rattle.lc_arguments.specs.declared.option_row.Subcommand.TheVariants.{Check};
 
-use crate::option_row::Subcommand;
-use crate::request::ParseExit;
-use std::alloc::Global;
-use std::convert::AsStr;
+use crate::request::Request;
+use clap::ArgMatches;
 
 /// The options of `lc check`, as in `lc check --explain .gitignore`.
 #[derive(Drop)]
@@ -19,21 +19,13 @@ pub struct CheckRequest<'w> {
     pub file: &'w str,
 }
 
-impl<'w> CheckRequest<'w> {
-    /// Reads the arguments after `check`.
-    pub(crate) fn read<W: AsStr>(
-        alloc: Global,
-        words: &'w [W],
-    ) -> Result<CheckRequest<'w>, ParseExit>
-        ensures { AnswersCheckWords (map W.text words.entry.now) result }
-    {
-        match Subcommand::Check.parsed(alloc, words) {
-            Ok(matches) => Ok(CheckRequest {
-                explain: matches.get_flag("explain"),
-                null: matches.get_flag("null"),
-                file: matches.get_str("FILE").unwrap_or(""),
-            }),
-            Err(no) => Err(no),
-        }
-    }
+/// Reads the options from clap's values.
+pub(crate) fn request_in<'w>(matches: &ArgMatches<'w>) -> Request<'w>
+    ensures { IsAskedBy Check (rows_of (found_of matches.now)) result }
+{
+    Request::Check(CheckRequest {
+        explain: matches.get_flag("explain"),
+        null: matches.get_flag("null"),
+        file: matches.get_str("FILE").unwrap_or(""),
+    })
 }

@@ -1,12 +1,13 @@
 //! Options that can't be combined.
 
 ghost use Rattle.std.specs.Prelude.{◌≡◌, ◌&&◌, is_some, not};
-ghost use Rattle.lc_arguments.specs.Combinations.{asks_for_rows, boxes_fit, diff_fits, fit_together, has_one_kind};
+ghost use Rattle.lc_arguments.specs.Combinations.{asks_for_rows, boxes_fit, diff_fits, fit_together, fits, has_one_kind};
 ghost use Rattle.lc_arguments.specs.Combinations.{is_dash, paths_fit, reads_input_once};
 ghost use Rattle.lc_arguments.specs.Combinations.{shows_differences, shows_shares, sum_fits, table_fits, takes_input, walk_fits};
 
 use crate::count::CountRequest;
 use crate::diff::DiffRequest;
+use crate::request::Request;
 use crate::sum::SumRequest;
 use crate::table::TableRequest;
 use crate::walk_request::WalkRequest;
@@ -114,7 +115,7 @@ fn paths_misfit(request: &CountRequest<'_>) -> Option<&'static str>
 }
 
 /// Returns why the options of `lc count` can't be combined, or `None` if they can.
-pub(crate) fn misfit(request: &CountRequest<'_>) -> Option<&'static str>
+fn count_misfit(request: &CountRequest<'_>) -> Option<&'static str>
     ensures { is_some result ≡ not (fit_together request.now) }
 {
     if let Some(why) = table_misfit(request.table, request.left_out) {
@@ -127,7 +128,7 @@ pub(crate) fn misfit(request: &CountRequest<'_>) -> Option<&'static str>
 }
 
 /// Returns why the options of `lc sum` can't be combined, or `None` if they can.
-pub(crate) fn sum_misfit(request: &SumRequest<'_>) -> Option<&'static str>
+fn sum_misfit(request: &SumRequest<'_>) -> Option<&'static str>
     ensures { is_some result ≡ not (sum_fits request.now) }
 {
     if let Some(why) = table_misfit(request.table, request.left_out) {
@@ -181,7 +182,7 @@ fn format_misfit(format: Option<Output>) -> Option<&'static str>
 }
 
 /// Returns why the options of `lc diff` can't be combined, or `None` if they can.
-pub(crate) fn diff_misfit(request: &DiffRequest<'_>) -> Option<&'static str>
+fn diff_misfit(request: &DiffRequest<'_>) -> Option<&'static str>
     ensures { is_some result ≡ not (diff_fits request.now) }
 {
     if let Some(why) = format_misfit(request.table.format) {
@@ -194,4 +195,16 @@ pub(crate) fn diff_misfit(request: &DiffRequest<'_>) -> Option<&'static str>
         return Some(why);
     }
     input_misfit(request)
+}
+
+/// Returns why the options of a request can't be combined, or `None` if they can.
+pub(crate) fn misfit(request: &Request<'_>) -> Option<&'static str>
+    ensures { is_some result ≡ not (fits request.now) }
+{
+    match request {
+        Request::Count(asked) => count_misfit(asked),
+        Request::Sum(asked) => sum_misfit(asked),
+        Request::Diff(asked) => diff_misfit(asked),
+        _ => None,
+    }
 }

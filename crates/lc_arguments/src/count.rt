@@ -1,22 +1,17 @@
 //! The command line of `lc count`.
 
-ghost use Rattle.std.specs.Prelude.{map};
 ghost use Rattle.clap.specs.Matches.{found_of};
-ghost use Rattle.lc_arguments.specs.Explained.{AnswersCountWords, AnswersIn};
-ghost use Rattle.lc_arguments.specs.Words.{AsksNoCount, IsCountOf};
+ghost use Rattle.lc_arguments.specs.Explained.{AnswersIn};
 ghost use Rattle.lc_arguments.specs.declared.option_row.Subcommand.TheVariants.{Count};
 
 use crate::changes::one_sided;
-use crate::combinations::misfit;
 use crate::directories::directories_in;
-use crate::option_row::Subcommand;
-use crate::request::{ParseExit, unfit};
+use crate::request::{ParseExit, Request};
 use crate::table::{TableRequest, table_in};
 use crate::walk_request::WalkRequest;
 use clap::ArgMatches;
 use lc_sheet::Condition;
 use std::alloc::Global;
-use std::convert::AsStr;
 
 /// The options of `lc count`, as in `lc count --threads 8 --exclude-from rules src`.
 #[derive(Drop)]
@@ -39,15 +34,18 @@ pub struct CountRequest<'w> {
     pub directories: Vec<&'w str>,
 }
 
-/// Reads the options from clap's values, and refuses wrong values. `misfit` then finds options that can't be combined.
-fn request_in<'w>(alloc: Global, matches: &ArgMatches<'w>) -> Result<CountRequest<'w>, ParseExit>
-    ensures { AnswersIn Count IsCountOf AsksNoCount (found_of matches.now) result }
+/// Reads the options from clap's values, and refuses wrong values.
+pub(crate) fn request_in<'w>(
+    alloc: Global,
+    matches: &ArgMatches<'w>,
+) -> Result<Request<'w>, ParseExit>
+    ensures { AnswersIn Count (found_of matches.now) result }
 {
     let walk = WalkRequest::read(alloc, matches)?;
     let directories = directories_in(alloc, matches)?;
     let table = table_in(alloc, matches)?;
     let chosen = one_sided(alloc, matches)?;
-    Ok(CountRequest {
+    Ok(Request::Count(CountRequest {
         walk,
         left_out: matches.get_flag("left-out"),
         table,
@@ -55,28 +53,5 @@ fn request_in<'w>(alloc: Global, matches: &ArgMatches<'w>) -> Result<CountReques
         conditions: chosen.conditions,
         fail_if_any: matches.get_flag("fail-if-any"),
         directories,
-    })
-}
-
-impl<'w> CountRequest<'w> {
-    /// Reads the arguments after `count`.
-    pub(crate) fn read<W: AsStr>(
-        alloc: Global,
-        words: &'w [W],
-    ) -> Result<CountRequest<'w>, ParseExit>
-        ensures { AnswersCountWords (map W.text words.entry.now) result }
-    {
-        let matches = match Subcommand::Count.parsed(alloc, words) {
-            Ok(matches) => matches,
-            Err(no) => return Err(no),
-        };
-        let request = match request_in(alloc, &matches) {
-            Ok(request) => request,
-            Err(no) => return Err(no),
-        };
-        match misfit(&request) {
-            None => Ok(request),
-            Some(why) => Err(unfit(alloc, why)),
-        }
-    }
+    }))
 }

@@ -1,21 +1,16 @@
 //! The command line of `lc diff`.
 
-ghost use Rattle.std.specs.Prelude.{map};
 ghost use Rattle.clap.specs.Matches.{found_of};
-ghost use Rattle.lc_arguments.specs.Explained.{AnswersDiffWords, AnswersIn};
-ghost use Rattle.lc_arguments.specs.Words.{AsksNoDiff, IsDiffOf};
+ghost use Rattle.lc_arguments.specs.Explained.{AnswersIn};
 ghost use Rattle.lc_arguments.specs.declared.option_row.Subcommand.TheVariants.{Diff};
 
-use crate::combinations::diff_misfit;
 use crate::conditions::Where;
-use crate::option_row::Subcommand;
-use crate::request::{ParseExit, unfit};
+use crate::request::{ParseExit, Request};
 use crate::table::{TableRequest, table_in};
 use crate::walk_request::WalkRequest;
 use clap::ArgMatches;
 use lc_sheet::{ChangeKinds, Condition};
 use std::alloc::Global;
-use std::convert::AsStr;
 
 /// The options of `lc diff`, as in `lc diff --files v1.json src`.
 #[derive(Drop)]
@@ -41,14 +36,17 @@ pub struct DiffRequest<'w> {
     pub new: &'w str,
 }
 
-/// Reads the options from clap's values, and refuses wrong values. `diff_misfit` then finds options that can't be combined.
-fn request_in<'w>(alloc: Global, matches: &ArgMatches<'w>) -> Result<DiffRequest<'w>, ParseExit>
-    ensures { AnswersIn Diff IsDiffOf AsksNoDiff (found_of matches.now) result }
+/// Reads the options from clap's values, and refuses wrong values.
+pub(crate) fn request_in<'w>(
+    alloc: Global,
+    matches: &ArgMatches<'w>,
+) -> Result<Request<'w>, ParseExit>
+    ensures { AnswersIn Diff (found_of matches.now) result }
 {
     let walk = WalkRequest::read(alloc, matches)?;
     let table = table_in(alloc, matches)?;
     let chosen = Where::read(alloc, matches)?;
-    Ok(DiffRequest {
+    Ok(Request::Diff(DiffRequest {
         walk,
         table: TableRequest {
             share: false,
@@ -61,28 +59,5 @@ fn request_in<'w>(alloc: Global, matches: &ArgMatches<'w>) -> Result<DiffRequest
         all: matches.get_flag("all"),
         old: matches.get_str("OLD").unwrap_or(""),
         new: matches.get_str("NEW").unwrap_or(""),
-    })
-}
-
-impl<'w> DiffRequest<'w> {
-    /// Reads the arguments after `diff`.
-    pub(crate) fn read<W: AsStr>(
-        alloc: Global,
-        words: &'w [W],
-    ) -> Result<DiffRequest<'w>, ParseExit>
-        ensures { AnswersDiffWords (map W.text words.entry.now) result }
-    {
-        let matches = match Subcommand::Diff.parsed(alloc, words) {
-            Ok(matches) => matches,
-            Err(no) => return Err(no),
-        };
-        let request = match request_in(alloc, &matches) {
-            Ok(request) => request,
-            Err(no) => return Err(no),
-        };
-        match diff_misfit(&request) {
-            None => Ok(request),
-            Some(why) => Err(unfit(alloc, why)),
-        }
-    }
+    }))
 }

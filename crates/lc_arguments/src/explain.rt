@@ -1,13 +1,13 @@
 //! The command line of `lc explain`.
 
-ghost use Rattle.std.specs.Prelude.{map};
-ghost use Rattle.lc_arguments.specs.Explained.{AnswersExplainWords};
+ghost use Rattle.clap.specs.Matches.{found_of};
+ghost use Rattle.lc_arguments.specs.Explained.{AnswersIn};
+ghost use Rattle.lc_arguments.specs.declared.option_row.Subcommand.TheVariants.{Explain};
 
 use crate::filter_request::FilterRequest;
-use crate::option_row::Subcommand;
-use crate::request::ParseExit;
+use crate::request::{ParseExit, Request};
+use clap::ArgMatches;
 use std::alloc::Global;
-use std::convert::AsStr;
 
 /// The options of `lc explain`, as in `lc explain . a.log src/m.c`.
 #[derive(Drop)]
@@ -22,30 +22,21 @@ pub struct ExplainRequest<'w> {
     pub paths: Vec<&'w str>,
 }
 
-impl<'w> ExplainRequest<'w> {
-    /// Reads the arguments after `explain`.
-    pub(crate) fn read<W: AsStr>(
-        alloc: Global,
-        words: &'w [W],
-    ) -> Result<ExplainRequest<'w>, ParseExit>
-        ensures { AnswersExplainWords (map W.text words.entry.now) result }
-    {
-        let matches = match Subcommand::Explain.parsed(alloc, words) {
-            Ok(matches) => matches,
-            Err(no) => return Err(no),
-        };
-        let filters = match FilterRequest::read(alloc, &matches) {
-            Ok(filters) => filters,
-            Err(no) => return Err(no),
-        };
-        let Ok(paths) = matches.get_strs("PATH").unwrap_or(&[]).to_vec(alloc) else {
-            return Err(ParseExit::Memory);
-        };
-        Ok(ExplainRequest {
-            filters,
-            null: matches.get_flag("null"),
-            directory: matches.get_str("DIR").unwrap_or(""),
-            paths,
-        })
-    }
+/// Reads the options from clap's values, and refuses wrong values.
+pub(crate) fn request_in<'w>(
+    alloc: Global,
+    matches: &ArgMatches<'w>,
+) -> Result<Request<'w>, ParseExit>
+    ensures { AnswersIn Explain (found_of matches.now) result }
+{
+    let filters = FilterRequest::read(alloc, matches)?;
+    let Ok(paths) = matches.get_strs("PATH").unwrap_or(&[]).to_vec(alloc) else {
+        return Err(ParseExit::Memory);
+    };
+    Ok(Request::Explain(ExplainRequest {
+        filters,
+        null: matches.get_flag("null"),
+        directory: matches.get_str("DIR").unwrap_or(""),
+        paths,
+    }))
 }

@@ -2,9 +2,9 @@
 
 ghost use Rattle.std.specs.Prelude.{◌≡◌, map, option_map};
 ghost use Rattle.lc_arguments.specs.Naming.{may_be_directory};
-ghost use Rattle.lc_arguments.specs.Words.{begins_count, count_words, is_own_option};
+ghost use Rattle.lc_arguments.specs.Words.{asked_by, begins_count, count_words, is_own_option};
 
-use crate::naming::named_command;
+use crate::option_row::Subcommand;
 use std::convert::AsStr;
 
 /// Returns whether an argument is an option for the program's own help or version.
@@ -47,6 +47,28 @@ pub fn count_words<'w, W: AsStr>(words: &'w [W]) -> Option<&'w [W]>
     None
 }
 
+/// Returns the command that arguments name, or `None` if they name none, and the arguments that are then read: those after the command's
+/// name, or all arguments of a count that is typed without the word `count`, or without a command.
+pub(crate) fn asked<'w, W: AsStr>(words: &'w [W]) -> (Option<Subcommand>, &'w [W])
+    ensures command { result.0 ≡ (asked_by (map W.text words.now)).0 }
+    ensures words { map W.text result.1.now ≡ (asked_by (map W.text words.now)).1 }
+{
+    let Some((first, rest)) = words.split_first() else {
+        return (None, words);
+    };
+    if let Some(count) = count_words(words) {
+        return (Some(Subcommand::Count), count);
+    }
+    match first.as_str() {
+        "check" => (Some(Subcommand::Check), rest),
+        "explain" => (Some(Subcommand::Explain), rest),
+        "sum" => (Some(Subcommand::Sum), rest),
+        "diff" => (Some(Subcommand::Diff), rest),
+        "languages" => (Some(Subcommand::Languages), rest),
+        _ => (None, words),
+    }
+}
+
 /// Returns whether the first argument begins a count if it is the name of a directory. It is then no option and no command, and has no
 /// slash.
 ///
@@ -61,5 +83,5 @@ pub fn may_be_directory<W: AsStr>(words: &[W]) -> bool
         return false;
     };
     let first = first.as_str();
-    named_command(words).is_none() && !is_own_option(first) && first != "help"
+    asked(words).0.is_none() && !is_own_option(first) && first != "help"
 }

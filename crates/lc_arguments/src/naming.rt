@@ -9,7 +9,7 @@ ghost use Rattle.lc_arguments.specs.Options.{option_model};
 ghost use Rattle.lc_text.specs.Visible.{visible_bytes};
 
 use crate::error_text::problem_of;
-use crate::first_word::count_words;
+use crate::first_word::asked;
 use crate::option_row::{Kind, OptionRow, Subcommand};
 use crate::options_table::options;
 use lc_text::push_visible;
@@ -145,26 +145,6 @@ pub(crate) fn with_words<W: AsStr>(
     Ok(more)
 }
 
-/// Returns the command that arguments name, or `None` if they name none.
-pub(crate) fn named_command<W: AsStr>(words: &[W]) -> Option<Subcommand>
-    ensures { result ≡ named_command (map W.text words.now) }
-{
-    let Some((first, _)) = words.split_first() else {
-        return None;
-    };
-    if count_words(words).is_some() {
-        return Some(Subcommand::Count);
-    }
-    match first.as_str() {
-        "check" => Some(Subcommand::Check),
-        "explain" => Some(Subcommand::Explain),
-        "sum" => Some(Subcommand::Sum),
-        "diff" => Some(Subcommand::Diff),
-        "languages" => Some(Subcommand::Languages),
-        _ => None,
-    }
-}
-
 /// Returns whether a text names each argument of a command, as the help of that command does. The command is the one that the arguments
 /// `words` name. If they name no command, the text must name `lc`.
 pub(crate) fn is_text_of<W: AsStr>(
@@ -174,7 +154,7 @@ pub(crate) fn is_text_of<W: AsStr>(
 ) -> Result<bool, AllocError>
     ensures { IfOk result (λ named. named ≡ true → IsTextOf (named_command (map W.text words.now)) text.now) }
 {
-    match named_command(words) {
+    match asked(words).0 {
         None => Ok(has(text, "lc")),
         Some(command) => names_all(alloc, text, command, options()),
     }

@@ -1,27 +1,29 @@
 //! The requests that the arguments of the program make.
 
-ghost use Rattle.std.specs.Prelude.{◌≡◌, IfErr, IfOk, None, map, string_bytes};
+ghost use Rattle.std.specs.Prelude.{IfErr, IfOk, None, Some, map, string_bytes};
+ghost use Rattle.clap.specs.Matches.{found_of};
 ghost use Rattle.lc_arguments.specs.CommandLine.{lc_app};
 ghost use Rattle.lc_arguments.specs.CountArgs.{IsCommandOf};
-ghost use Rattle.lc_arguments.specs.Explained.{Explains, IsRefusal, AnswersOthers};
+ghost use Rattle.lc_arguments.specs.Explained.{AnswersIn, Explains, IsRefusal};
 ghost use Rattle.lc_arguments.specs.Naming.{IsNamingError, NamesArguments};
 ghost use Rattle.lc_arguments.specs.Refusals.{IsMessage, IsRefusedVisibly};
-ghost use Rattle.lc_arguments.specs.Words.{AnswersWords, count_words};
+ghost use Rattle.lc_arguments.specs.Words.{AnswersAsked, AnswersWords};
 
 use crate::check::CheckRequest;
+use crate::combinations::misfit;
 use crate::count::CountRequest;
 use crate::diff::DiffRequest;
 use crate::error_text::{advised, number_refused, problem_of, range_refused, value_refused};
 use crate::explain::ExplainRequest;
-use crate::first_word::count_words;
+use crate::first_word::asked;
 use crate::naming::{is_naming_error, is_text_of, with_words};
 use crate::option_row::Subcommand;
 use crate::refusals::{message, visible_words};
 use crate::suggestions::Advice;
 use crate::sum::SumRequest;
-use crate::{arguments, help, suggestions};
+use crate::{arguments, check, count, diff, explain, help, suggestions, sum};
 use clap::error::ErrorKind;
-use clap::{Command, Error};
+use clap::{ArgMatches, Command, Error};
 use std::alloc::{AllocError, Global};
 use std::convert::AsStr;
 
@@ -161,13 +163,16 @@ pub(crate) fn unfit_word(alloc: Global, before: &str, word: &str, after: &str) -
 
 /// Reads arguments that name no command.
 fn read_others<'w, W: AsStr>(alloc: Global, words: &'w [W]) -> Result<Request<'w>, ParseExit>
-    ensures { AnswersOthers (map W.text words.entry.now) result }
+    ensures { AnswersAsked None (map W.text words.entry.now) result }
 {
+    if words.is_empty() {
+        return Ok(Request::CheckJoined);
+    }
     let Ok(command) = command(alloc) else {
         return Err(ParseExit::Memory);
     };
     match command.try_get_matches_from(words) {
-        // clap accepts no arguments and `--`. `read_words` and `count_words` read both elsewhere.
+        // clap accepts `--`, which `count_words` reads elsewhere.
         Ok(_) => Ok(Request::CheckJoined),
         Err(error) => match suggestions::command(alloc, words) {
             Ok(advice) => Err(explained(alloc, &error, help::LC.usage, &advice)),
@@ -176,56 +181,53 @@ fn read_others<'w, W: AsStr>(alloc: Global, words: &'w [W]) -> Result<Request<'w
     }
 }
 
-/// Reads arguments that request no count.
-fn read_command<'w, W: AsStr>(alloc: Global, words: &'w [W]) -> Result<Request<'w>, ParseExit>
-    ensures { count_words (map W.text words.entry.now) ≡ None → AnswersWords (map W.text words.entry.now) result }
+/// Reads the request of a command from clap's values. `misfit` then finds options that can't be combined.
+fn request_in<'w>(
+    alloc: Global,
+    command: Subcommand,
+    matches: &ArgMatches<'w>,
+) -> Result<Request<'w>, ParseExit>
+    ensures { AnswersIn command (found_of matches.now) result }
 {
-    let Some((first, rest)) = words.split_first() else {
-        return Ok(Request::CheckJoined);
+    match command {
+        Subcommand::Count => count::request_in(alloc, matches),
+        Subcommand::Sum => sum::request_in(alloc, matches),
+        Subcommand::Diff => diff::request_in(alloc, matches),
+        Subcommand::Check => Ok(check::request_in(matches)),
+        Subcommand::Explain => explain::request_in(alloc, matches),
+        Subcommand::Languages => Ok(Request::Languages),
+    }
+}
+
+/// Reads the arguments after a command's name.
+fn read_command<'w, W: AsStr>(
+    alloc: Global,
+    command: Subcommand,
+    words: &'w [W],
+) -> Result<Request<'w>, ParseExit>
+    ensures { AnswersAsked (Some command) (map W.text words.entry.now) result }
+{
+    let matches = match command.parsed(alloc, words) {
+        Ok(matches) => matches,
+        Err(no) => return Err(no),
     };
-    if first.as_str() == "check" {
-        return match CheckRequest::read(alloc, rest) {
-            Ok(asked) => Ok(Request::Check(asked)),
-            Err(no) => Err(no),
-        };
+    let request = match request_in(alloc, command, &matches) {
+        Ok(request) => request,
+        Err(no) => return Err(no),
+    };
+    match misfit(&request) {
+        None => Ok(request),
+        Some(why) => Err(unfit(alloc, why)),
     }
-    if first.as_str() == "explain" {
-        return match ExplainRequest::read(alloc, rest) {
-            Ok(asked) => Ok(Request::Explain(asked)),
-            Err(no) => Err(no),
-        };
-    }
-    if first.as_str() == "sum" {
-        return match SumRequest::read(alloc, rest) {
-            Ok(asked) => Ok(Request::Sum(asked)),
-            Err(no) => Err(no),
-        };
-    }
-    if first.as_str() == "diff" {
-        return match DiffRequest::read(alloc, rest) {
-            Ok(asked) => Ok(Request::Diff(asked)),
-            Err(no) => Err(no),
-        };
-    }
-    if first.as_str() == "languages" {
-        return match Subcommand::Languages.parsed(alloc, rest) {
-            Ok(_) => Ok(Request::Languages),
-            Err(no) => Err(no),
-        };
-    }
-    read_others(alloc, words)
 }
 
 /// Reads the arguments of the program. Each command reads its own arguments, so their values are known to be in range.
 fn read_words<'w, W: AsStr>(alloc: Global, words: &'w [W]) -> Result<Request<'w>, ParseExit>
     ensures { AnswersWords (map W.text words.entry.now) result }
 {
-    match count_words(words) {
-        None => read_command(alloc, words),
-        Some(count) => match CountRequest::read(alloc, count) {
-            Ok(asked) => Ok(Request::Count(asked)),
-            Err(no) => Err(no),
-        },
+    match asked(words) {
+        (None, others) => read_others(alloc, others),
+        (Some(command), rest) => read_command(alloc, command, rest),
     }
 }
 

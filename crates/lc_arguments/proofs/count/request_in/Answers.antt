@@ -23,7 +23,7 @@ returns-in_err-table c =
 pub returns-in_err-chosen : goal.returns-in_err-chosen
 returns-in_err-chosen c =
     passed_on _ _ _ c.from_residual-in_err-chosen.result c.in_err-chosen.field-0.0
-    (λ none. inr (inr (inr (inl none)))) c.from_residual-in_err-chosen.ensures.1 c.in_err-chosen.ensures
+    (λ none. inr (inr (inr none))) c.from_residual-in_err-chosen.ensures.1 c.in_err-chosen.ensures
 
 pub returns : goal.returns
 returns c = λ are.
@@ -33,9 +33,8 @@ returns c = λ are.
       walk = c.in_ok-walk.ensures (record { threads = are (codes "threads") max_threads refl; max_dirs = are (codes "max-dirs") max_dirs refl });
       left_out = flag_of rows f (codes "left-out") c.get_flag.result refl c.get_flag.ensures.value c.get_flag.ensures.other;
       table = c.in_ok-table.ensures;
-      attributes = c.in_ok-chosen.ensures.0.attributes;
+      chosen = c.in_ok-chosen.ensures.0.chosen;
       one_sided = c.in_ok-chosen.ensures.1;
-      conditions = c.in_ok-chosen.ensures.0.conditions;
       fail_if_any = flag_of rows f (codes "fail-if-any") c.get_flag-2.result refl c.get_flag-2.ensures.value c.get_flag-2.ensures.other;
       directories = c.in_ok-directories.ensures;
     }

@@ -17,7 +17,7 @@ returns-in_err-table c =
 
 pub returns-in_err-chosen : goal.returns-in_err-chosen
 returns-in_err-chosen c =
-    passed_on _ _ _ c.from_residual-in_err-chosen.result c.in_err-chosen.field-0.0 (λ none. inr (inr (inl none)))
+    passed_on _ _ _ c.from_residual-in_err-chosen.result c.in_err-chosen.field-0.0 (λ none. inr (inr none))
     c.from_residual-in_err-chosen.ensures.1 c.in_err-chosen.ensures
 
 pub returns : goal.returns
@@ -43,8 +43,7 @@ returns c = λ are.
         files = table.files;
       };
       no_share = refl;
-      attributes = c.in_ok-chosen.ensures.attributes;
-      conditions = c.in_ok-chosen.ensures.conditions;
+      chosen = c.in_ok-chosen.ensures.chosen;
       changes = c.in_ok-chosen.ensures.changes;
       fail_if_any = flag_of rows f (codes "fail-if-any") c.get_flag.result refl c.get_flag.ensures.value c.get_flag.ensures.other;
       all = flag_of rows f (codes "all") c.get_flag-2.result refl c.get_flag-2.ensures.value c.get_flag-2.ensures.other;

@@ -1,4 +1,4 @@
-use Rattle.std.proofs.{Common.{◌∙◌, ◌≡◌, ℕ, List, Option, Some, None, option_map, ap, arith, refl, sym}, lemmas.Grind.common_steps}
+use Rattle.std.proofs.{Common.{◌∙◌, ◌≡◌, ℕ, List, Option, Some, None, option_map, ap, refl, sym}}
 use Rattle.clap.specs.{Matches.found_of, Walk.rows_of}
 use Rattle.lc_arguments.specs.ReadNumbers.{IsNumberTo, number_to}
 use Rattle.lc_arguments.proofs.{Misnaming.refused_for, WordFaults.text_of}

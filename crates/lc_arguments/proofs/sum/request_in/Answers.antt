@@ -12,7 +12,7 @@ returns-in_err-table c =
 pub returns-in_err-chosen : goal.returns-in_err-chosen
 returns-in_err-chosen c =
     passed_on _ _ _ c.from_residual-in_err-chosen.result c.in_err-chosen.field-0.0
-    (λ none. inr (inr (inl none))) c.from_residual-in_err-chosen.ensures.1 c.in_err-chosen.ensures
+    (λ none. inr (inr none)) c.from_residual-in_err-chosen.ensures.1 c.in_err-chosen.ensures
 
 pub returns-in_err-reports : goal.returns-in_err-reports
 returns-in_err-reports c =
@@ -27,9 +27,8 @@ returns c = λ are.
       left_out = flag_of rows f (codes "left-out") c.get_flag.result refl c.get_flag.ensures.value c.get_flag.ensures.other;
       null = flag_of rows f (codes "null") c.get_flag-2.result refl c.get_flag-2.ensures.value c.get_flag-2.ensures.other;
       table = c.in_ok-table.ensures;
-      attributes = c.in_ok-chosen.ensures.0.attributes;
+      chosen = c.in_ok-chosen.ensures.0.chosen;
       one_sided = c.in_ok-chosen.ensures.1;
-      conditions = c.in_ok-chosen.ensures.0.conditions;
       fail_if_any = flag_of rows f (codes "fail-if-any") c.get_flag-3.result refl c.get_flag-3.ensures.value c.get_flag-3.ensures.other;
       reports = c.in_ok-reports.ensures;
     }

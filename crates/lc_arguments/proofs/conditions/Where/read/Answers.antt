@@ -1,4 +1,4 @@
-use Rattle.std.proofs.Common.{◌∙◌, ap, ap₂, codes, map, refl}
+use Rattle.std.proofs.Common.{◌∙◌, ap, ap₂, codes, refl}
 use Rattle.clap.specs.{Matches.found_of, Walk.rows_of}
 use Rattle.lc_arguments.specs.{AttributeWords.attributes_asked, ConditionWords.changes_of}
 use Rattle.lc_arguments.proofs.{ConditionsRead.{all_written, none_written, too_many}, Misnaming.refused_with}
@@ -25,8 +25,9 @@ returns-in-Ok-conditions_of c =
     let texts = texts_of (rows_of f) f (codes "where") c.get_strs.result _ c.unwrap_or-texts.result refl c.get_strs.ensures refl
     c.unwrap_or-texts.ensures in
     record {
-      attributes = c.in-Ok.ensures.0 ∙ ap₂ attributes_asked (text_of (rows_of f) f (codes "by") c.get_str-by.result refl c.get_str-by.ensures) texts;
-      conditions = record {
+      chosen = record {
+        columns = c.in-Ok.ensures.0
+            ∙ ap₂ attributes_asked (text_of (rows_of f) f (codes "by") c.get_str-by.result refl c.get_str-by.ensures) texts;
         allowed = all_written _ _ texts c.in-Ok-conditions_of.ensures.2 c.in-Ok.ensures.1;
         no_binary = c.get_flag-no_binary.result;
         flag = flag_of (rows_of f) f (codes "no-binary") c.get_flag-no_binary.result refl c.get_flag-no_binary.ensures.value
