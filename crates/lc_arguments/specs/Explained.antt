@@ -5,10 +5,10 @@ use Rattle.clap.specs.{Faults.fault_of, Simple.matches_of, Values.kind_of, decla
 use Rattle.clap.specs.{declared.{error.kind.ErrorKind.TheVariants.OutOfMemory, parser.matches.Found.Found}, Walk.{Row, rows_of}}
 use Rattle.lc_arguments.specs.CommandLine.{command_app, rules_in}
 use Rattle.lc_arguments.specs.Words.{AreChosenBy, AreFiltersOf, AsksNoTable, AsksNoWalk, ChoosesNone, IsAskedBy, IsOneSided, IsText, IsWalkOf}
-use Rattle.lc_arguments.specs.Words.{IsWholeTableIn, Misasks, Misstates, Misvalue, conditions_read}
+use Rattle.lc_arguments.specs.Words.{HasWrongValues, IsWholeTableIn, Misstates, Misvalue, conditions_read}
 use Rattle.lc_arguments.specs.ConditionWords.{all_conditions, changes_of, condition_of, conditions_of, is_condition, kinds_left, test_few}
 use Rattle.lc_arguments.specs.{AttributeWords.attributes_asked, declared.conditions.Where.Where}
-use Rattle.lc_arguments.specs.Words.{directories_read, is_bad_part, part_of, reports_read, texts_read, values_read}
+use Rattle.lc_arguments.specs.Words.{is_bad_part, part_of}
 use Rattle.lc_arguments.specs.ReadNumbers.{AreReadBy, AreReadWithin, IsNumberTo}
 use Rattle.lc_arguments.specs.{Directories.{are_distinct, unslashed}, Repeated.are_allowed, Reports.{name_reports, named_of, report_model}}
 use Rattle.lc_arguments.specs.TableWords.{AreColumnsBy, IsTableBy, order_word, output_word}
@@ -51,7 +51,7 @@ pub record IsParsedAs (command : Subcommand) (words : List (List ℕ)) (found : 
 abbrev pub AnswersIn : Subcommand → Found → Result Request ParseExit → Type 0
 AnswersIn command found =
     AnswersOr (λ (request : Request). AreReadBy (rules_in command options) found → IsAskedBy command (rows_of found) request)
-    (Misasks command (rows_of found))
+    (HasWrongValues command (rows_of found))
 
 -- the filters that were read, or an option has values that it may not have
 abbrev pub AnswersFilters : List Row → Result FilterRequest ParseExit → Type 0
@@ -99,20 +99,12 @@ AnswersRepeated option texts =
     AnswersOr (λ (values : Vec (Bor (List ℕ))). (map (λ value. value.now) values.items ≡ texts) × (are_allowed option texts ≡ true))
     (are_allowed option texts ≡ false)
 
--- those that were read
-abbrev pub AnswersRepeatedIn : List Row → Repeated → Result (Vec (Bor (List ℕ))) ParseExit → Type 0
-AnswersRepeatedIn rows option result = AnswersRepeated option (values_read rows option) result
-
 -- the paths of these words, in their order; or a path is neither the path of an entry nor `.`
 abbrev pub AnswersPaths : List (List ℕ) → Result (Vec (Bor (List ℕ))) ParseExit → Type 0
 AnswersPaths words =
     AnswersOr (λ (paths : Vec (Bor (List ℕ))).
     (map (λ path. path.now) paths.items ≡ map part_of words) × (list_any is_bad_part (map part_of words) ≡ false))
     (list_any is_bad_part (map part_of words) ≡ true)
-
--- those that were read
-abbrev pub AnswersPathsIn : List Row → Result (Vec (Bor (List ℕ))) ParseExit → Type 0
-AnswersPathsIn rows result = AnswersPaths (texts_read (codes "only") rows) result
 
 -- the directories of these words, in their order; or one is named twice
 abbrev pub AnswersDirectories : List (List ℕ) → Result (Vec (Bor (List ℕ))) ParseExit → Type 0
@@ -121,20 +113,12 @@ AnswersDirectories words =
     (map (λ directory. directory.now) directories.items ≡ words) × (are_distinct (map unslashed words) ≡ true))
     (are_distinct (map unslashed words) ≡ false)
 
--- those that were read
-abbrev pub AnswersDirectoriesIn : List Row → Result (Vec (Bor (List ℕ))) ParseExit → Type 0
-AnswersDirectoriesIn rows result = AnswersDirectories (directories_read rows) result
-
 -- the reports of these words, in their order; or a word names no report, or two words name standard input
 abbrev pub AnswersReports : List (List ℕ) → Result (Vec NamedReport) ParseExit → Type 0
 AnswersReports words =
     AnswersOr (λ (reports : Vec NamedReport).
     (map report_model reports.items ≡ map named_of words) × (name_reports words ≡ true))
     (name_reports words ≡ false)
-
--- those that were read
-abbrev pub AnswersReportsIn : List Row → Result (Vec NamedReport) ParseExit → Type 0
-AnswersReportsIn rows result = AnswersReports (reports_read rows) result
 
 -- a value with this property; or no value has the property, or there is no memory to say so
 abbrev pub AnswersBy : {A : Type 0} → (A → Type 0) → Result A ParseExit → Type 0

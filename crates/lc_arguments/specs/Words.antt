@@ -257,17 +257,17 @@ IsAskedBy command rows request = ⊥
 
 -- values of the arguments of a command are refused: they request no walk, name a directory twice, request no table, have no conditions
 -- of one side, or name no report
-abbrev pub Misasks : Subcommand → List Row → Type 0
-Misasks command.Count rows = AsksNoWalk rows ⊎ (NamesOneTwice rows ⊎ (AsksNoTable rows ⊎ ChoosesNone rows))
-Misasks command.Explain rows = Misvalue rows
-Misasks command.Check rows = ⊥
-Misasks command.Sum rows = MisnamesReports rows ⊎ (AsksNoTable rows ⊎ ChoosesNone rows)
-Misasks command.Diff rows = AsksNoWalk rows ⊎ (AsksNoTable rows ⊎ Misstates rows)
-Misasks command.Languages rows = ⊥
+abbrev pub HasWrongValues : Subcommand → List Row → Type 0
+HasWrongValues command.Count rows = AsksNoWalk rows ⊎ (NamesOneTwice rows ⊎ (AsksNoTable rows ⊎ ChoosesNone rows))
+HasWrongValues command.Explain rows = Misvalue rows
+HasWrongValues command.Check rows = ⊥
+HasWrongValues command.Sum rows = MisnamesReports rows ⊎ (AsksNoTable rows ⊎ ChoosesNone rows)
+HasWrongValues command.Diff rows = AsksNoWalk rows ⊎ (AsksNoTable rows ⊎ Misstates rows)
+HasWrongValues command.Languages rows = ⊥
 
 -- the arguments of a command make no request, or one whose options do not fit together
 abbrev pub AsksNothing : Subcommand → List Row → Type 0
-AsksNothing command rows = Misasks command rows ⊎ ((request : Request) × IsAskedBy command rows request × (fits request ≡ false))
+AsksNothing command rows = HasWrongValues command rows ⊎ ((request : Request) × IsAskedBy command rows request × (fits request ≡ false))
 
 -- an error of this kind shows a requested text, help or the version; `MayShow`: one of the kinds does so; `MayRefuse`: one of them does not
 abbrev pub IsText : ErrorKind → Type 0

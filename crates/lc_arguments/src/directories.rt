@@ -6,7 +6,7 @@ ghost use Rattle.std.specs.Str.{bytes_eq};
 ghost use Rattle.clap.specs.Matches.{found_of};
 ghost use Rattle.clap.specs.Walk.{rows_of};
 ghost use Rattle.lc_arguments.specs.Directories.{are_distinct, or_default, unslashed};
-ghost use Rattle.lc_arguments.specs.Explained.{AnswersDirectoriesIn};
+ghost use Rattle.lc_arguments.specs.{Explained.AnswersDirectories, Words.directories_read};
 
 use crate::request::{ParseExit, unfit_word};
 use clap::ArgMatches;
@@ -73,7 +73,7 @@ pub(crate) fn directories_in<'w>(
     alloc: Global,
     matches: &ArgMatches<'w>,
 ) -> Result<Vec<&'w str>, ParseExit>
-    ensures { AnswersDirectoriesIn (rows_of (found_of matches.now)) result }
+    ensures { AnswersDirectories (directories_read (rows_of (found_of matches.now))) result }
 {
     let words = matches.get_strs("DIR").unwrap_or(&[]);
     let Ok(directories) = or_default(alloc, words, ".") else {

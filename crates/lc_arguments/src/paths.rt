@@ -1,10 +1,10 @@
 //! The paths of `--only`, as in `--only src --only doc`.
 
-ghost use Rattle.std.specs.Prelude.{◌≡◌, map};
+ghost use Rattle.std.specs.Prelude.{◌≡◌, codes, map};
 ghost use Rattle.clap.specs.Matches.{found_of};
 ghost use Rattle.clap.specs.Walk.{rows_of};
-ghost use Rattle.lc_arguments.specs.Explained.{AnswersPaths, AnswersPathsIn};
-ghost use Rattle.lc_arguments.specs.Words.{is_bad_part, part_of};
+ghost use Rattle.lc_arguments.specs.Explained.{AnswersPaths};
+ghost use Rattle.lc_arguments.specs.Words.{is_bad_part, part_of, texts_read};
 
 use crate::request::{ParseExit, refused};
 use clap::ArgMatches;
@@ -54,7 +54,7 @@ pub(crate) fn paths_in<'w>(
     alloc: Global,
     matches: &ArgMatches<'w>,
 ) -> Result<Vec<&'w [u8]>, ParseExit>
-    ensures { AnswersPathsIn (rows_of (found_of matches.now)) result }
+    ensures { AnswersPaths (texts_read (codes "only") (rows_of (found_of matches.now))) result }
 {
     let words = matches.get_strs("only").unwrap_or(&[]);
     paths_of(alloc, words)

@@ -5,7 +5,7 @@ ghost use Rattle.std.specs.List.{list_all};
 ghost use Rattle.clap.specs.Matches.{found_of};
 ghost use Rattle.clap.specs.Walk.{rows_of};
 ghost use Rattle.lc_arguments.specs.Repeated.{are_short, has_one_line, id_of, is_allowed, lines_text};
-ghost use Rattle.lc_arguments.specs.Explained.{AnswersRepeated, AnswersRepeatedIn, IsRefusal};
+ghost use Rattle.lc_arguments.specs.{Explained.{AnswersRepeated, IsRefusal}, Words.values_read};
 
 use crate::request::{ParseExit, refused};
 use clap::ArgMatches;
@@ -139,7 +139,7 @@ pub(crate) fn values_in<'w>(
     matches: &ArgMatches<'w>,
     option: Repeated,
 ) -> Result<Vec<&'w str>, ParseExit>
-    ensures { AnswersRepeatedIn (rows_of (found_of matches.now)) option result }
+    ensures { AnswersRepeated option (values_read (rows_of (found_of matches.now)) option) result }
 {
     let values = matches.get_strs(option.name()).unwrap_or(&[]);
     allowed(alloc, option, values)

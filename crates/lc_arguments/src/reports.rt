@@ -4,7 +4,7 @@ ghost use Rattle.std.specs.Prelude.{◌≡◌, IfOk, is_some, map, not, option_m
 ghost use Rattle.std.specs.List.{find, list_all, list_any};
 ghost use Rattle.clap.specs.Matches.{found_of};
 ghost use Rattle.clap.specs.Walk.{rows_of};
-ghost use Rattle.lc_arguments.specs.Explained.{AnswersReports, AnswersReportsIn};
+ghost use Rattle.lc_arguments.specs.{Explained.AnswersReports, Words.reports_read};
 ghost use Rattle.lc_arguments.specs.Reports.{is_good_report, is_input, named_of, read_input_once, report_model};
 
 use crate::directories::or_default;
@@ -144,7 +144,7 @@ pub(crate) fn reports_in<'w>(
     alloc: Global,
     matches: &ArgMatches<'w>,
 ) -> Result<Vec<NamedReport<'w>>, ParseExit>
-    ensures { AnswersReportsIn (rows_of (found_of matches.now)) result }
+    ensures { AnswersReports (reports_read (rows_of (found_of matches.now))) result }
 {
     let words = matches.get_strs("REPORT").unwrap_or(&[]);
     match or_default(alloc, words, "-") {
