@@ -1,6 +1,6 @@
 -- Boxes that are written one after the other.
 use Rattle.std.proofs.Common.{◌≡◌, ℕ, ◌+◌, ◌<◌, List, ◌∷◌, ◌++◌, length, drop, get_or, min, refl, sym, ap, ap₂, ◌∙◌}
-use Rattle.lc_picture.specs.{declared.scale.Scale.Scale, Boxes.{BoxModel, boxes_in, next_box}, Pieces.text_of}
+use Rattle.lc_picture.specs.{declared.scale.Scale.Scale, Boxes.BoxModel, Nested.{boxes_in, next_box}, Pieces.text_of}
 use Rattle.lc_picture.proofs.{Steps.one_on, Texts.two_texts}
 
 -- behind the next box of some come the others

@@ -1,10 +1,8 @@
--- Chains that are one box, and numbers that add up.
-use Rattle.std.proofs.Common.{◌≡◌, ℕ, ◌+◌, ◌-◌, ◌==◌, nat_le, Bool, true, false, if◌then◌else◌, List, [], ◌∷◌, map, Option, refl, ap, ◌∙◌}
-use Rattle.std.proofs.Common.{arith}
-use Rattle.lc_rows.specs.ShownRows.{number_in}
+-- Chains that are one box.
+use Rattle.std.proofs.Common.{◌≡◌, ℕ, Bool, true, false, if◌then◌else◌, List, [], ◌∷◌, map, Option, refl, ap}
 use Rattle.lc_sheet.specs.declared.column.Number.{Number}
-use Rattle.lc_picture.specs.{Boxes.{BoxModel, left_beside, moved}, Chains.{depths_after, goes_on, joined_depth, joined_from}}
-use Rattle.lc_picture.specs.{Chains.{joined_name, name_start}, Laws.{ChainsLaw, SumsLaw, ends_of_chains, number_inside, unplaced}}
+use Rattle.lc_picture.specs.{Boxes.{BoxModel, moved}, Chains.{depths_after, goes_on, joined_depth, joined_from}}
+use Rattle.lc_picture.specs.{Chains.{joined_name, name_start}, Laws.{ChainsLaw, ends_of_chains, unplaced}}
 use Rattle.std.specs.Prelude.{Some, None}
 
 one_joined : (by : Number) (least : ℕ) (depths : List ℕ) (start : Option ℕ) (b : BoxModel) (bs : List BoxModel) (is_on : Bool)
@@ -27,24 +25,3 @@ all_joined by least depths start (b ∷ bs) =
 
 pub chains_law : ChainsLaw
 chains_law by least bs = all_joined by least (0 ∷ []) None bs
-
--- ---- numbers
-
-left_step : (by : Number) (depth n m : ℕ) (bs : List BoxModel) (ends right_in : Bool)
-    → left_beside by depth (if right_in then n - m else n) bs ≡ (if right_in then n - m else n) - number_inside by depth bs
-    → (if ends then n else left_beside by depth (if right_in then n - m else n) bs)
-    ≡ n - (if ends then 0 else (if right_in then m else 0) + number_inside by depth bs)
-left_step by depth n m bs true right_in next = omega arith
-left_step by depth n m bs false true next = next ∙ omega arith
-left_step by depth n m bs false false next = next ∙ omega arith
-
-left_is : (by : Number) (depth n : ℕ) (bs : List BoxModel) → left_beside by depth n bs ≡ n - number_inside by depth bs
-left_is by depth n [] = omega arith
-left_is by depth n (b ∷ bs) =
-    left_step by depth n (number_in by b.sums) bs (nat_le b.depth depth) (b.depth == depth + 1)
-    (left_is by depth (if b.depth == depth + 1 then n - number_in by b.sums else n) bs)
-
-pub sums_law : SumsLaw
-sums_law by b bs directory fits =
-    let left = left_is by b.depth (number_in by b.sums) bs in
-    rw directory (omega arith)

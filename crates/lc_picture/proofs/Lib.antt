@@ -2,7 +2,7 @@ pub mod Texts
 pub mod Steps
 pub mod Lines
 pub mod References
-pub mod Spaces
+pub mod Openings
 pub mod Outlines
 pub mod ReportShown
 pub mod ChartColours
@@ -16,5 +16,6 @@ pub mod Pages
 pub mod Nesting
 pub mod InsideBoxes
 pub mod ChainLaws
-pub mod TreeSums
+pub mod AddingUp
+pub mod StripLists
 pub mod ChainDepths

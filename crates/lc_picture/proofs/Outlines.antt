@@ -1,22 +1,21 @@
 -- What a page shows, and what of it depends on no name.
-use Rattle.std.proofs.Common.{◌≡◌, ℕ, ◌+◌, ◌-◌, ◌==◌, nat_le, Bool, true, false, if◌then◌else◌, List, [], ◌∷◌, ◌++◌, map, min, suc, zero}
-use Rattle.std.proofs.{Common.{refl, sym, ap, ap₂, ◌∙◌, codes, length, nat_lt, take}, lemmas.List.{append-nil, map-append}}
+use Rattle.std.proofs.Common.{◌≡◌, ℕ, ◌+◌, ◌-◌, ◌==◌, ◌&&◌, nat_le, Bool, true, false, if◌then◌else◌, List, [], ◌∷◌, ◌++◌, map, min, suc, zero}
+use Rattle.std.proofs.{Common.{refl, sym, ap, ap₂, ◌∙◌, codes, length, nat_lt, take}, lemmas.List.{append-nil, length-map, map-append}}
 use Rattle.std.proofs.lemmas.List.Elements.{filter-append}
 use Rattle.std.specs.List.{filter, flat_map}
 use Rattle.lc_rows.specs.{RowKeys.ShownRowModel, ShownRows.number_in}
 use Rattle.lc_sheet.specs.{Sheets.{SectionModel, SheetModel}, Values.ValueModel, declared.column.Number.Number}
-use Rattle.lc_picture.specs.{declared.{scale.Scale.Scale, small_directories.SmallDirectories.SmallDirectories}, Boxes.{BoxModel, box_of}}
-use Rattle.lc_picture.specs.Boxes.{boxes_in, closings, drawn_boxes, is_open, label, left_beside, next_box, opening, rest_in}
-use Rattle.lc_picture.specs.{Boxes.{space, tag_end, title_of}, Chart.{cell, cells, cells_in, chart, coloured_line}}
-use Rattle.lc_picture.specs.{Chart.{coloured_lines, plain_line, plain_lines}, Colours.{first_rows_of, path_of, rows_from}}
-use Rattle.lc_picture.specs.{Faults.{fault_lines, faults_end, faults_listed, faults_part, more_faults}, Laws.{DrawnLaw, OutlineLaw}}
-use Rattle.lc_picture.specs.Laws.{ShownLaw, bare, counts, is_shown, nameless, outline, share_in, shown_of_box, shown_of_boxes, shown_of_fault}
-use Rattle.lc_picture.specs.Laws.{shown_of_faults, shown_of_head, shown_of_more, shown_of_line, shown_of_value}
-use Rattle.lc_picture.specs.{Head.head_part, Page.{body_pieces, chart_part, page_end, tree_part}, Pieces.{Piece, count, markup, name, percent, title}, Small.no_directories}
-use Rattle.lc_picture.specs.Small.{row_level, small_in}
+use Rattle.lc_picture.specs.{declared.scale.Scale.Scale, Boxes.{BoxModel, box_of, drawn_boxes}, Chart.{cell, cells, cells_in, chart}}
+use Rattle.lc_picture.specs.{Chart.{coloured_line, coloured_lines, plain_line, plain_lines}, Colours.{first_rows_of, path_of, rows_from}}
+use Rattle.lc_picture.specs.{Colours.shared_colour, Faults.{fault_lines, faults_end, faults_listed, faults_part, more_faults}}
+use Rattle.lc_picture.specs.Laws.{DrawnLaw, OutlineLaw, ShownLaw, bare, is_shown, nameless, outline, shown_of_box, shown_of_boxes}
+use Rattle.lc_picture.specs.Laws.{shown_of_entry, shown_of_fault, shown_of_faults, shown_of_head, shown_of_legend, shown_of_line}
+use Rattle.lc_picture.specs.{Laws.{shown_of_more, shown_of_value}, Head.head_part, Legend.{legend, legend_from}}
+use Rattle.lc_picture.specs.Nested.{boxes_in, closings, next_box, opening, strip_tag}
+use Rattle.lc_picture.specs.{Page.{body_pieces, chart_part, legend_begin, page_end, tree_begin, tree_part}, Pieces.{Piece, count, markup}}
+use Rattle.lc_picture.specs.{Small.{no_directories, row_level, small_in}, Strips.{first_strip, strip_left, strip_number, strip_of}}
 use Rattle.lc_level.specs.FaultLines.{FaultLineModel}
-use Rattle.lc_text.specs.Visible.{visible_path}
-use Rattle.lc_picture.proofs.Spaces.{space_with}
+use Rattle.lc_picture.proofs.Openings.{opening_with, strip_with}
 use Rattle.lc_sheet.specs.Values as value
 
 -- ---- what a page shows
@@ -25,39 +24,25 @@ closings_show : (n : ℕ) → filter is_shown (closings n) ≡ []
 closings_show zero = refl
 closings_show (suc n) = closings_show n
 
--- a box may be open or folded at first
-tag_end_shows : (is : Bool) (ps : List Piece) → filter is_shown (tag_end is ∷ ps) ≡ filter is_shown ps
-tag_end_shows true ps = refl
-tag_end_shows false ps = refl
+opening_shows : (scale : Scale) (b : BoxModel) (place strip : ℕ) (rest file : Bool)
+    → filter is_shown (opening_with scale b place strip rest file) ≡ shown_of_box scale b
+opening_shows scale b place strip true file = refl
+opening_shows scale b place strip false true = refl
+opening_shows scale b place strip false false = refl
 
--- there may be a rest
-space_shows : (scale : Scale) (colour : ℕ) (s : SmallDirectories) (rest : ℕ) (some none one others : Bool)
-    → filter is_shown (space_with scale colour s rest some none one others)
-    ≡ (if some then (if none then [] else count s.count ∷ []) ++ count rest ∷ percent rest scale.whole ∷ [] else [])
-space_shows scale colour s rest false none one others = refl
-space_shows scale colour s rest true true one others = refl
-space_shows scale colour s rest true false true true = refl
-space_shows scale colour s rest true false true false = refl
-space_shows scale colour s rest true false false true = refl
-space_shows scale colour s rest true false false false = refl
-
-opening_shows : (scale : Scale) (b : BoxModel) (rest : ℕ) → filter is_shown (opening scale b rest) ≡ shown_of_box scale b rest
-opening_shows scale b rest =
-    tag_end_shows (is_open b.depth)
-    (title_of scale b.path b.sums ++ (label scale b.own_name (number_in scale.by b.sums) ++ space scale b.rest_colour b.small rest))
-    ∙ ap (λ (ps : List Piece). title (visible_path b.path) ∷ (counts b.sums ++ share_in scale b.sums ∷ name (visible_path b.own_name)
-    ∷ count (number_in scale.by b.sums) ∷ share_in scale b.sums ∷ ps))
-    (space_shows scale b.rest_colour b.small rest (nat_le 1 rest) (b.small.number == 0) (b.small.count == 1)
-    (nat_lt b.small.number rest))
+strip_shows : (strip : ℕ) (there : Bool) (ps : List Piece) → filter is_shown (strip_with there strip ++ ps) ≡ filter is_shown ps
+strip_shows strip true ps = refl
+strip_shows strip false ps = refl
 
 box_shows : (scale : Scale) (within : ℕ) (b : BoxModel) (bs : List BoxModel)
-    → filter is_shown (next_box scale within b bs)
-    ≡ shown_of_box scale b (rest_in scale.by b bs)
+    → filter is_shown (next_box scale within b bs) ≡ shown_of_box scale b
 box_shows scale within b bs =
-    let left : ℕ = rest_in scale.by b bs in
-    filter-append is_shown (closings (within - b.depth)) (opening scale b left)
-    ∙ ap (λ (ps : List Piece). ps ++ filter is_shown (opening scale b left)) (closings_show (within - b.depth))
-    ∙ opening_shows scale b left
+    let further : List Piece = strip_tag scale.by within b bs in
+    let opened : List Piece = opening scale b bs in
+    filter-append is_shown (closings (within - b.depth)) (further ++ opened)
+    ∙ ap (λ (ps : List Piece). ps ++ filter is_shown (further ++ opened)) (closings_show (within - b.depth))
+    ∙ strip_shows (strip_number scale.by (strip_of b bs)) (b.begins_strip && nat_lt b.depth within) opened
+    ∙ opening_shows scale b (length bs) (strip_number scale.by (first_strip b.depth bs)) b.is_rest b.is_file
 
 boxes_show : (scale : Scale) (within : ℕ) (bs : List BoxModel) → filter is_shown (boxes_in scale within bs) ≡ shown_of_boxes scale bs
 boxes_show scale within [] = closings_show within
@@ -65,9 +50,20 @@ boxes_show scale within (b ∷ bs) =
     filter-append is_shown (next_box scale within b bs) (boxes_in scale (min within b.depth + 1) bs)
     ∙ ap₂ (λ (ps qs : List Piece). ps ++ qs) (box_shows scale within b bs) (boxes_show scale (min within b.depth + 1) bs)
 
-tree_shows : (scale : Scale) (bs : List BoxModel) → filter is_shown (tree_part scale bs) ≡ shown_of_boxes scale bs
-tree_shows scale bs =
-    filter-append is_shown (boxes_in scale 0 bs) _ ∙ append-nil (filter is_shown (boxes_in scale 0 bs)) ∙ boxes_show scale 0 bs
+legend_shows : (by : Number) (colour : ℕ) (rs : List ShownRowModel)
+    → filter is_shown (legend_from by colour rs) ≡ flat_map (shown_of_entry by) rs
+legend_shows by colour [] = refl
+legend_shows by colour (r ∷ rs) = ap (λ (ps : List Piece). shown_of_entry by r ++ ps) (legend_shows by (colour + 1) rs)
+
+tree_shows : (scale : Scale) (chart : List ShownRowModel) (bs : List BoxModel)
+    → filter is_shown (tree_part scale chart bs) ≡ shown_of_legend scale.by chart ++ shown_of_boxes scale bs
+tree_shows scale chart bs =
+    let legend_end : List Piece = markup tree_begin ∷ [] in
+    let entries : List Piece = legend scale.by chart in
+    filter-append is_shown (markup legend_begin ∷ (entries ++ legend_end)) _
+    ∙ ap₂ (λ (ps qs : List Piece). ps ++ qs)
+    (filter-append is_shown entries legend_end ∙ append-nil (filter is_shown entries) ∙ legend_shows scale.by 0 (take shared_colour chart))
+    (filter-append is_shown (boxes_in scale 0 bs) _ ∙ append-nil (filter is_shown (boxes_in scale 0 bs)) ∙ boxes_show scale 0 bs)
 
 value_shows : (v : ValueModel) → filter is_shown (cell v) ≡ shown_of_value v
 value_shows value.missing = refl
@@ -134,13 +130,13 @@ head_shows named [] by totals = refl
 head_shows named (b ∷ bs) by totals = refl
 
 pub shown_law : ShownLaw
-shown_law named chosen scale faults s boxes =
-    filter-append is_shown (head_part named chosen scale.by s.totals) (body_pieces scale faults s boxes)
+shown_law named chosen scale faults chart s boxes =
+    filter-append is_shown (head_part named chosen scale.by s.totals) (body_pieces scale faults chart s boxes)
     ∙ ap₂ (λ (ps qs : List Piece). ps ++ qs) (head_shows named chosen scale.by s.totals)
-    (filter-append is_shown (faults_part faults) (tree_part scale boxes ++ chart_part s)
+    (filter-append is_shown (faults_part faults) (tree_part scale chart boxes ++ chart_part s)
     ∙ ap₂ (λ (ps qs : List Piece). ps ++ qs) (faults_show faults)
-    (filter-append is_shown (tree_part scale boxes) (chart_part s)
-    ∙ ap₂ (λ (ps qs : List Piece). ps ++ qs) (tree_shows scale boxes) (chart_shows s)))
+    (filter-append is_shown (tree_part scale chart boxes) (chart_part s)
+    ∙ ap₂ (λ (ps qs : List Piece). ps ++ qs) (tree_shows scale chart boxes) (chart_shows s)))
 
 -- ---- the directories that are drawn
 
@@ -166,21 +162,60 @@ drawn_law by least kinds (r ∷ rs) =
 
 -- ---- names
 
-left_same : (by : Number) (depth n : ℕ) (bs : List BoxModel) → left_beside by depth n (map outline bs) ≡ left_beside by depth n bs
-left_same by depth n [] = refl
-left_same by depth n (b ∷ bs) =
-    ap (λ (left : ℕ). if nat_le b.depth depth then n else left)
-    (left_same by depth (if b.depth == depth + 1 then n - number_in by b.sums else n) bs)
+-- names change the number of no strip
+left_step : (by : Number) (depth : ℕ) (b : BoxModel) (bs : List BoxModel) (above same begins : Bool)
+    → strip_number by (strip_left depth (map outline bs)) ≡ strip_number by (strip_left depth bs)
+    → strip_number by (if above then [] else if same then (if begins then [] else outline b ∷ strip_left depth (map outline bs))
+    else strip_left depth (map outline bs))
+    ≡ strip_number by (if above then [] else if same then (if begins then [] else b ∷ strip_left depth bs) else strip_left depth bs)
+left_step by depth b bs true same begins next = refl
+left_step by depth b bs false true true next = refl
+left_step by depth b bs false true false next = ap (λ (n : ℕ). number_in by b.sums + n) next
+left_step by depth b bs false false begins next = next
 
-rest_same : (by : Number) (b : BoxModel) (bs : List BoxModel) → rest_in by (outline b) (map outline bs) ≡ rest_in by b bs
-rest_same by b bs = ap (λ (left : ℕ). if b.is_file then 0 else left) (left_same by b.depth (number_in by b.sums) bs)
+left_same : (by : Number) (depth : ℕ) (bs : List BoxModel)
+    → strip_number by (strip_left depth (map outline bs)) ≡ strip_number by (strip_left depth bs)
+left_same by depth [] = refl
+left_same by depth (b ∷ bs) =
+    left_step by depth b bs (nat_lt b.depth depth) (b.depth == depth) b.begins_strip (left_same by depth bs)
+
+strip_same : (by : Number) (b : BoxModel) (bs : List BoxModel)
+    → strip_number by (strip_of (outline b) (map outline bs)) ≡ strip_number by (strip_of b bs)
+strip_same by b bs = ap (λ (n : ℕ). number_in by b.sums + n) (left_same by b.depth bs)
+
+first_step : (by : Number) (b : BoxModel) (bs : List BoxModel) (inside : Bool)
+    → strip_number by (if inside then strip_of (outline b) (map outline bs) else [])
+    ≡ strip_number by (if inside then strip_of b bs else [])
+first_step by b bs true = strip_same by b bs
+first_step by b bs false = refl
+
+first_same : (by : Number) (depth : ℕ) (bs : List BoxModel)
+    → strip_number by (first_strip depth (map outline bs)) ≡ strip_number by (first_strip depth bs)
+first_same by depth [] = refl
+first_same by depth (b ∷ bs) = first_step by b bs (nat_lt depth b.depth)
+
+opening_nameless : (scale : Scale) (b : BoxModel) (place strip : ℕ) (rest file : Bool)
+    → map nameless (opening_with scale (outline b) place strip rest file) ≡ map nameless (opening_with scale b place strip rest file)
+opening_nameless scale b place strip true file = refl
+opening_nameless scale b place strip false true = refl
+opening_nameless scale b place strip false false = refl
 
 box_nameless : (scale : Scale) (within : ℕ) (b : BoxModel) (bs : List BoxModel)
     → map nameless (next_box scale within (outline b) (map outline bs)) ≡ map nameless (next_box scale within b bs)
 box_nameless scale within b bs =
-    let begin = λ (left : ℕ). map nameless (closings (within - b.depth) ++ opening scale (outline b) left) in
-    ap begin (rest_same scale.by b bs)
-    ∙ map-append nameless (closings (within - b.depth)) _ ∙ sym (map-append nameless (closings (within - b.depth)) _)
+    let closed : List Piece = closings (within - b.depth) in
+    let there : Bool = b.begins_strip && nat_lt b.depth within in
+    let opened = λ (a : BoxModel) (place strip : ℕ). opening_with scale a place strip b.is_rest b.is_file in
+    let strip : ℕ = strip_number scale.by (first_strip b.depth bs) in
+    ap₂ (λ (n : ℕ) (ps : List Piece). map nameless (closed ++ (strip_with there n ++ ps))) (strip_same scale.by b bs)
+    (ap₂ (opened (outline b)) (length-map bs outline) (first_same scale.by b.depth bs))
+    ∙ map-append nameless closed (strip_with there (strip_number scale.by (strip_of b bs)) ++ opened (outline b) (length bs) strip)
+    ∙ ap (λ (ps : List Piece). map nameless closed ++ ps)
+    (map-append nameless (strip_with there (strip_number scale.by (strip_of b bs))) (opened (outline b) (length bs) strip)
+    ∙ ap (λ (ps : List Piece). map nameless (strip_with there (strip_number scale.by (strip_of b bs))) ++ ps)
+    (opening_nameless scale b (length bs) strip b.is_rest b.is_file)
+    ∙ sym (map-append nameless (strip_with there (strip_number scale.by (strip_of b bs))) (opened b (length bs) strip)))
+    ∙ sym (map-append nameless closed (strip_with there (strip_number scale.by (strip_of b bs)) ++ opened b (length bs) strip))
 
 boxes_nameless : (scale : Scale) (within : ℕ) (bs : List BoxModel)
     → map nameless (boxes_in scale within (map outline bs)) ≡ map nameless (boxes_in scale within bs)

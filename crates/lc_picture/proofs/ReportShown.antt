@@ -5,8 +5,9 @@ use Rattle.lc_rows.specs.{Kinds.{extension_value, row_value, sums_value}, RowKey
 use Rattle.lc_rows.specs.{Sheets.{others_lines, sheet_of}, Views.ViewModel}
 use Rattle.lc_sheet.specs.{Sheets.{line_of, lines_of}, declared.{column.{Column.Column, Number.Number}, form.Form.Form}}
 use Rattle.lc_walk.specs.declared.{report.Report.Report, tally.sums.Sums.Sums}
-use Rattle.lc_picture.specs.Laws.{ReportLaw, cell_counts, row_counts, shown_of_boxes, shown_of_faults, shown_of_line, shown_of_others}
-use Rattle.lc_picture.specs.{Laws.{shown_of_row, shown_of_title, shown_of_value, visible_extension}, Page.{chart_options, scale_of}, Pieces.{Piece, name}}
+use Rattle.lc_picture.specs.Laws.{ReportLaw, cell_counts, row_counts, shown_of_boxes, shown_of_faults, shown_of_legend, shown_of_line}
+use Rattle.lc_picture.specs.{Laws.{shown_of_others, shown_of_row, shown_of_title, shown_of_value}, Legend.visible_extension}
+use Rattle.lc_picture.specs.{Page.{chart_options, scale_of}, Pieces.{Piece, name}}
 use Rattle.lc_picture.proofs.Outlines.{shown_law}
 
 extension_shows : (e : Option (List ℕ)) → shown_of_value (extension_value e) ≡ name (visible_extension e) ∷ []
@@ -37,7 +38,8 @@ others_show by r v (Some s) = refl
 
 pub report_law : ReportLaw
 report_law named chosen by r v boxes =
-    shown_law named chosen (scale_of by r.totals) r.faults.items (sheet_of (chart_options by) [] r v) boxes
+    shown_law named chosen (scale_of by r.totals) r.faults.items v.rows (sheet_of (chart_options by) [] r v) boxes
     ∙ ap₂ (λ (ps qs : List Piece). (shown_of_title named chosen ++ cell_counts r.totals)
-    ++ (shown_of_faults r.faults.items ++ (shown_of_boxes (scale_of by r.totals) boxes ++ (ps ++ qs)))) (rows_show by r v v.rows)
+    ++ (shown_of_faults r.faults.items ++ ((shown_of_legend by v.rows ++ shown_of_boxes (scale_of by r.totals) boxes) ++ (ps ++ qs))))
+    (rows_show by r v v.rows)
     (others_show by r v v.others)

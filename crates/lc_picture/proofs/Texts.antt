@@ -1,7 +1,7 @@
 -- Texts of pieces that are written one after the other.
 use Rattle.std.proofs.Common.{◌≡◌, ℕ, ◌-◌, ◌<◌, List, [], ◌∷◌, ◌++◌, suc, refl, sym, ap, ◌∙◌, append_assoc, arith}
 use Rattle.std.proofs.lemmas.{Grind.flat_map-append, List.append-nil}
-use Rattle.lc_picture.specs.{Boxes.closings, Pieces.{Piece, piece_text, text_of}}
+use Rattle.lc_picture.specs.{Nested.closings, Pieces.{Piece, piece_text, text_of}}
 
 -- two texts of pieces
 pub two_texts : (t0 t1 t2 : List ℕ) (a b : List Piece) → t1 ≡ t0 ++ text_of a → t2 ≡ t1 ++ text_of b → t2 ≡ t0 ++ text_of (a ++ b)

@@ -17,6 +17,10 @@ place_of e (r ∷ rs) = if same_extension e r.key.tally.extension then 0 else pl
 abbrev pub shared_colour : ℕ
 shared_colour = 8
 
+-- the colour of all rests
+abbrev pub rest_colour : ℕ
+rest_colour = 9
+
 -- the colour of an extension: its index in the chart, or the shared colour if it is not among the first eight
 abbrev pub colour_of : List ShownRowModel → Option (List ℕ) → ℕ
 colour_of chart e = min (place_of e chart) shared_colour

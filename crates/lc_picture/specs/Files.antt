@@ -1,5 +1,5 @@
 -- The files that have boxes of their own, in the boxes of the directories that hold them.
-use Rattle.std.specs.{Prelude.{ℕ, ◌+◌, Bool, true, nat_le, bytes_eq, List, [], ◌∷◌, ◌++◌, map}, List.filter}
+use Rattle.std.specs.{Prelude.{ℕ, ◌+◌, Bool, true, false, nat_le, bytes_eq, List, [], ◌∷◌, ◌++◌, map}, List.filter}
 use Rattle.lc_rows.specs.{Directories.{directory_of, name_of}, ShownFiles.file_number}
 use Rattle.lc_sheet.specs.declared.column.Number.{Number}
 use Rattle.lc_walk.specs.Sums.{one_file}
@@ -22,11 +22,12 @@ box_of_file depth f = record {
   own_name = name_of f.path;
   depth = depth;
   colour = shared_colour;
-  rest_colour = shared_colour;
+  begins_strip = false;
   sums = one_file f.count;
   kinds = [];
   small = no_directories;
   is_file = true;
+  is_rest = false;
 }
 
 abbrev pub file_box : ℕ → FileLineModel → FileBoxModel

@@ -1,8 +1,8 @@
 -- The law that a box opens inside the box of the directory that holds it.
 use Rattle.std.specs.Prelude.{◌≡◌, ℕ, if◌then◌else◌, List, [], ◌∷◌, ◌++◌, drop, length, ⊤}
-use Rattle.lc_text.specs.Visible.{visible_path}
-use Rattle.lc_picture.specs.{declared.scale.Scale.Scale, Boxes.{BoxModel, boxes_in}, Laws.ends_box, Pieces.{Piece, count, markup, name}}
-use Rattle.lc_picture.specs.Pieces.{percent, share, title, word}
+use Rattle.lc_sheet.specs.declared.column.Number.{Number}
+use Rattle.lc_picture.specs.{declared.scale.Scale.Scale, Boxes.BoxModel, Laws.ends_box, Nested.boxes_in, Pieces.{Piece, count, markup, name}}
+use Rattle.lc_picture.specs.{Pieces.{percent, share, title, word}, Rests.shown_name}
 
 -- the boxes that a reader of a page finds, each as its name and the names of the boxes around it, the innermost first. A name opens a box,
 -- and a closing tag ends the innermost box. `around` has the names of the boxes that are open
@@ -24,17 +24,17 @@ ComeDepthFirst before ([] ∷ ds) = ⊥
 ComeDepthFirst before ((own ∷ above) ∷ ds) =
     ((left : List (List ℕ)) × (before ≡ left ++ above)) × ComeDepthFirst (own ∷ above) ds
 
--- these are boxes of these directories: each has the name of its directory, as a page shows it, and its depth
-abbrev pub AreBoxesAt : List BoxModel → List (List (List ℕ)) → Type 0
-AreBoxesAt [] [] = ⊤
-AreBoxesAt [] (d ∷ ds) = ⊥
-AreBoxesAt (b ∷ bs) [] = ⊥
-AreBoxesAt (b ∷ bs) ([] ∷ ds) = ⊥
-AreBoxesAt (b ∷ bs) ((own ∷ above) ∷ ds) =
-    ((visible_path b.own_name ≡ own) × (b.depth ≡ length above)) × AreBoxesAt bs ds
+-- these are boxes of these directories: each has the name of its directory or its rest, as a page shows it, and its depth
+abbrev pub AreBoxesAt : Number → List BoxModel → List (List (List ℕ)) → Type 0
+AreBoxesAt by [] [] = ⊤
+AreBoxesAt by [] (d ∷ ds) = ⊥
+AreBoxesAt by (b ∷ bs) [] = ⊥
+AreBoxesAt by (b ∷ bs) ([] ∷ ds) = ⊥
+AreBoxesAt by (b ∷ bs) ((own ∷ above) ∷ ds) =
+    ((shown_name by b ≡ own) × (b.depth ≡ length above)) × AreBoxesAt by bs ds
 
 -- a reader of boxes that come depth first finds each directory, inside those above it
 abbrev pub InsideLaw : Type 0
 InsideLaw =
-    (scale : Scale) (bs : List BoxModel) (ds : List (List (List ℕ))) → ComeDepthFirst [] ds → AreBoxesAt bs ds
+    (scale : Scale) (bs : List BoxModel) (ds : List (List (List ℕ))) → ComeDepthFirst [] ds → AreBoxesAt scale.by bs ds
     → boxes_read [] (boxes_in scale 0 bs) ≡ ds

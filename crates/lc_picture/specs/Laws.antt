@@ -1,6 +1,6 @@
 -- The statements of the laws about pages.
 use Rattle.std.specs.Prelude.{◌≡◌, ◌+◌, ◌*◌, ◌-◌, ℕ, nat_eq, Bool, true, false, if◌then◌else◌, List, [], ◌∷◌, ◌++◌, map, flat_map, codes}
-use Rattle.std.specs.Prelude.{◌==◌, ◌<◌, ◌≤◌, ⊤, bytes_eq, length, nat_le, nat_lt, take, Option, Some, None}
+use Rattle.std.specs.Prelude.{◌==◌, ◌&&◌, ◌<◌, ◌≤◌, ⊤, bytes_eq, length, nat_le, nat_lt, take, Option, Some, None}
 use Rattle.std.specs.List.{Contains, filter, list_any}
 use Rattle.std.specs.List.{slice_index_or}
 use Rattle.lc_rows.specs.{Directories.directory_of, RowKeys.ShownRowModel, SheetLaws.first_number, Sheets.sheet_of, ShownRows.AreShown}
@@ -9,11 +9,11 @@ use Rattle.lc_sheet.specs.{Sheets.{SectionModel, SheetModel}, Values.ValueModel,
 use Rattle.lc_sheet.specs.declared.column.Number.TheVariants.{Files, Lines, Blank, Bytes}
 use Rattle.lc_walk.specs.{TallyRows.TallyRowModel, declared.{report.Report.Report, tally.sums.Sums.Sums}}
 use Rattle.lc_text.specs.{Names.named, Visible.{visible_bytes, visible_path}}
-use Rattle.lc_picture.specs.{Boxes.{BoxModel, box_of, boxes_in, drawn_boxes, moved, rest_in}, Chains.{goes_on, joined}, Chart.line_colour}
-use Rattle.lc_picture.specs.{Colours.colour_of, Escaping.html, Faults.faults_listed, Files.{box_of_file, is_large, large_files, with_files}}
+use Rattle.lc_picture.specs.{Boxes.{BoxModel, box_of, drawn_boxes, moved}, Chains.{goes_on, joined}, Chart.line_colour}
+use Rattle.lc_picture.specs.{Colours.{colour_of, shared_colour}, Escaping.html, Faults.faults_listed, Files.{box_of_file, is_large, large_files, with_files}}
 use Rattle.lc_picture.specs.{Page.{chart_columns, chart_options, chart_view, page_pieces, scale_of}, Pieces.{Piece, count, markup, name}}
 use Rattle.lc_picture.specs.{Pieces.{percent, share, title, word}, Small.no_directories, declared.scale.Scale.Scale}
-use Rattle.lc_picture.specs.declared.small_directories.SmallDirectories.{SmallDirectories}
+use Rattle.lc_picture.specs.{Legend.visible_extension, Nested.boxes_in, Rests.shown_name, Strips.{first_strip, strip_of}}
 use Rattle.lc_level.specs.{FaultLines.FaultLineModel, FaultWords.fault_word, Level.FileLineModel}
 use Rattle.lc_sheet.specs.Values as value
 
@@ -103,39 +103,31 @@ shown_of_line values = flat_map shown_of_value values
 abbrev pub share_in : Scale → Sums → Piece
 share_in scale s = percent (number_in scale.by s) scale.whole
 
--- what the name of a rest shows: how many small directories are in it, if these have a number
-abbrev pub shown_of_small : SmallDirectories → List Piece
-shown_of_small s = if s.number == 0 then [] else count s.count ∷ []
-
--- what a box shows for its rest, if this has a number: its name, its number and its share
-abbrev pub shown_of_space : Scale → SmallDirectories → ℕ → List Piece
-shown_of_space scale s rest = if nat_le 1 rest then shown_of_small s ++ count rest ∷ percent rest scale.whole ∷ [] else []
-
--- what a box shows: the path, the sums and the share; the name, with the number that is drawn and the share once more; and the rest
-abbrev pub shown_of_box : Scale → BoxModel → ℕ → List Piece
-shown_of_box scale b rest =
-    title (visible_path b.path) ∷ (counts b.sums ++ share_in scale b.sums ∷ name (visible_path b.own_name)
-    ∷ count (number_in scale.by b.sums) ∷ share_in scale b.sums ∷ shown_of_space scale b.small rest)
+-- what a box shows: the path, the sums and the share; and the name, with the number that is drawn
+abbrev pub shown_of_box : Scale → BoxModel → List Piece
+shown_of_box scale b =
+    title (visible_path b.path) ∷ (counts b.sums ++ share_in scale b.sums ∷ name (shown_name scale.by b) ∷ count (number_in scale.by b.sums) ∷ [])
 
 abbrev pub shown_of_boxes : Scale → List BoxModel → List Piece
-shown_of_boxes scale [] = []
-shown_of_boxes scale (b ∷ bs) =
-    shown_of_box scale b (rest_in scale.by b bs) ++ shown_of_boxes scale bs
+shown_of_boxes scale bs = flat_map (shown_of_box scale) bs
 
--- a page shows its title, the chosen files, the sums over all files, what could not be read, the drawn directories and files with their
--- sums and shares, and the names and the numbers of its sheet's rows and of the sums over the others: each once, in turn, and nothing else
+-- what the legend shows: each extension with a colour of its own, and its number
+abbrev pub shown_of_entry : Number → ShownRowModel → List Piece
+shown_of_entry by r = name (visible_extension r.key.tally.extension) ∷ count (number_in by r.sums) ∷ []
+
+abbrev pub shown_of_legend : Number → List ShownRowModel → List Piece
+shown_of_legend by chart = flat_map (shown_of_entry by) (take shared_colour chart)
+
+-- a page shows its title, the chosen files, the sums over all files, what could not be read, the legend, the drawn directories, files and
+-- rests with their sums and shares, and the names and the numbers of its sheet's rows and of the sums over the others: each once, in turn,
+-- and nothing else
 abbrev pub ShownLaw : Type 0
 ShownLaw =
-    (named chosen : List ℕ) (scale : Scale) (faults : List FaultLineModel) (s : SheetModel) (boxes : List BoxModel)
-    → filter is_shown (page_pieces named chosen scale faults s boxes)
+    (named chosen : List ℕ) (scale : Scale) (faults : List FaultLineModel) (chart : List ShownRowModel) (s : SheetModel)
+    (boxes : List BoxModel) → filter is_shown (page_pieces named chosen scale faults chart s boxes)
     ≡ shown_of_head named chosen s.totals
-    ++ (shown_of_faults faults ++ (shown_of_boxes scale boxes
+    ++ (shown_of_faults faults ++ ((shown_of_legend scale.by chart ++ shown_of_boxes scale boxes)
     ++ (flat_map shown_of_line s.rows.lines ++ flat_map shown_of_line s.others.lines)))
-
--- the text for an extension: a dot and its bytes, as a terminal shows them, or `-` for none
-abbrev pub visible_extension : Option (List ℕ) → List ℕ
-visible_extension None = codes "-"
-visible_extension (Some e) = codes "." ++ visible_bytes e
 
 -- the pieces that sums show in a line of the chart, in the order of columns
 abbrev pub cell_counts : Sums → List Piece
@@ -153,14 +145,14 @@ abbrev pub shown_of_others : Scale → Option Sums → List Piece
 shown_of_others scale None = []
 shown_of_others scale (Some s) = name (codes "others") ∷ row_counts scale s
 
--- the page of a report shows its title, the chosen files, the sums over all files, the boxes, each extension of the chart with its sums and
+-- the page of a report shows its title, the chosen files, the sums over all files, the legend, the boxes, each extension of the chart with its sums and
 -- its share, and the sums over the other extensions
 abbrev pub ReportLaw : Type 0
 ReportLaw =
     (named chosen : List ℕ) (by : Number) (r : Report) (v : ViewModel) (boxes : List BoxModel)
-    → filter is_shown (page_pieces named chosen (scale_of by r.totals) r.faults.items (sheet_of (chart_options by) [] r v) boxes)
+    → filter is_shown (page_pieces named chosen (scale_of by r.totals) r.faults.items v.rows (sheet_of (chart_options by) [] r v) boxes)
     ≡ (shown_of_title named chosen ++ cell_counts r.totals)
-    ++ (shown_of_faults r.faults.items ++ (shown_of_boxes (scale_of by r.totals) boxes
+    ++ (shown_of_faults r.faults.items ++ ((shown_of_legend by v.rows ++ shown_of_boxes (scale_of by r.totals) boxes)
     ++ (flat_map (shown_of_row (scale_of by r.totals)) v.rows ++ shown_of_others (scale_of by r.totals) v.others)))
 
 -- each row of the chart has the colour of its extension, which is also that of boxes
@@ -177,11 +169,12 @@ bare b = record {
   own_name = b.own_name;
   depth = b.depth;
   colour = b.colour;
-  rest_colour = b.rest_colour;
+  begins_strip = b.begins_strip;
   sums = b.sums;
   kinds = [];
   small = no_directories;
   is_file = b.is_file;
+  is_rest = b.is_rest;
 }
 
 -- the directories that are drawn are those with at least the least number, each once, whatever the extensions and the small directories are
@@ -214,21 +207,6 @@ ComeInDepth deepest (b ∷ bs) = (b.depth ≤ deepest) × ComeInDepth (b.depth +
 abbrev pub JoinedDepthsLaw : Type 0
 JoinedDepthsLaw = (by : Number) (least : ℕ) (bs : List BoxModel) → ComeInDepth 0 bs → ComeInDepth 0 (joined by least bs)
 
--- the sum of the numbers of the boxes right in a box of this depth, which these boxes follow
-abbrev pub number_inside : Number → ℕ → List BoxModel → ℕ
-number_inside by depth [] = 0
-number_inside by depth (b ∷ bs) =
-    if nat_le b.depth depth then 0
-    else (if b.depth == depth + 1 then number_in by b.sums else 0) + number_inside by depth bs
-
--- the numbers of the boxes right in a directory's box and that of its rest add up to the directory's number, if those of the boxes are not
--- more than this
-abbrev pub SumsLaw : Type 0
-SumsLaw =
-    (by : Number) (b : BoxModel) (bs : List BoxModel) → b.is_file ≡ false
-    → number_inside by b.depth bs ≤ number_in by b.sums
-    → number_inside by b.depth bs + rest_in by b bs ≡ number_in by b.sums
-
 -- each file with at least the least number has a box, if its directory has one
 abbrev pub LargeLaw : Type 0
 LargeLaw =
@@ -253,11 +231,12 @@ outline b = record {
   own_name = [];
   depth = b.depth;
   colour = b.colour;
-  rest_colour = b.rest_colour;
+  begins_strip = b.begins_strip;
   sums = b.sums;
   kinds = [];
   small = b.small;
   is_file = b.is_file;
+  is_rest = b.is_rest;
 }
 
 -- apart from the names, the boxes depend on depths, colours, numbers and which of them are files alone: no name adds a tag, or takes one
@@ -269,7 +248,7 @@ OutlineLaw =
 
 -- whether a piece begins a box, and for `ends_box` whether a piece ends a box
 abbrev pub begins_box : Piece → Bool
-begins_box (markup t) = bytes_eq t (codes "<details class=\"e")
+begins_box (markup t) = bytes_eq t (codes "<div class=\"b e")
 begins_box (share n) = false
 begins_box (word n) = false
 begins_box (count n) = false
@@ -278,7 +257,7 @@ begins_box (title t) = false
 begins_box (name t) = false
 
 abbrev pub ends_box : Piece → Bool
-ends_box (markup t) = bytes_eq t (codes "</div></details>\n")
+ends_box (markup t) = bytes_eq t (codes "</div></div>\n")
 ends_box (share n) = false
 ends_box (word n) = false
 ends_box (count n) = false
@@ -297,3 +276,25 @@ open_after n (p ∷ ps) =
 -- each box that is opened is closed, and no others
 abbrev pub NestingLaw : Type 0
 NestingLaw = (scale : Scale) (bs : List BoxModel) → open_after 0 (boxes_in scale 0 bs) ≡ Some 0
+
+-- the boxes right in a box of this depth, which these boxes follow depth first
+abbrev pub right_inside : ℕ → List BoxModel → List BoxModel
+right_inside depth [] = []
+right_inside depth (b ∷ bs) =
+    if nat_le b.depth depth then []
+    else if b.depth == depth + 1 then b ∷ right_inside depth bs
+    else right_inside depth bs
+
+-- the strips in a box of this depth after its first strip
+abbrev pub later_strips : ℕ → List BoxModel → List (List BoxModel)
+later_strips depth [] = []
+later_strips depth (b ∷ bs) =
+    if nat_le b.depth depth then []
+    else if (b.depth == depth + 1) && b.begins_strip then strip_of b bs ∷ later_strips depth bs
+    else later_strips depth bs
+
+-- the strips in a box, joined, are the boxes right in it, each once and in the same order, where the first of them follows it
+abbrev pub StripsLaw : Type 0
+StripsLaw =
+    (depth : ℕ) (b : BoxModel) (bs : List BoxModel) → b.depth ≡ depth + 1
+    → flat_map (λ strip. strip) (first_strip depth (b ∷ bs) ∷ later_strips depth bs) ≡ right_inside depth (b ∷ bs)

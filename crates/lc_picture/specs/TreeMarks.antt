@@ -1,12 +1,14 @@
--- The marks that draw a tree: before each line a trunk for each directory above it that has further lines, and a branch to the line.
+-- The lines of a tree: before the name of each a trunk for each directory above it that has further lines, and a branch to the line.
 use Rattle.std.specs.Prelude.{ℕ, zero, suc, ◌==◌, Bool, true, false, nat_lt, if◌then◌else◌, List, [], ◌∷◌, ◌++◌, codes, encode_utf8}
 use Rattle.lc_formats.specs.TreeText.{TreeLineModel}
-use Rattle.lc_picture.specs.TreeLines.{LineModel}
+use Rattle.lc_rows.specs.ShownRows.{number_in}
+use Rattle.lc_sheet.specs.declared.column.Number.{Number}
+use Rattle.lc_picture.specs.{Boxes.BoxModel, Rests.shown_name}
 
 -- whether a level goes on in the lines that follow: whether the first of them that is not deeper has this depth
-abbrev pub goes_on : List LineModel → ℕ → Bool
+abbrev pub goes_on : List BoxModel → ℕ → Bool
 goes_on [] level = false
-goes_on (l ∷ ls) level = if nat_lt level l.depth then goes_on ls level else l.depth == level
+goes_on (b ∷ bs) level = if nat_lt level b.depth then goes_on bs level else b.depth == level
 
 -- a trunk (U+2502) for a level that goes on, and blanks for another
 abbrev pub trunk : Bool → List ℕ
@@ -28,10 +30,11 @@ abbrev pub marks : (ℕ → Bool) → ℕ → List ℕ
 marks going zero = []
 marks going (suc n) = trunks going n ++ branch (going (suc n))
 
--- a line with the marks before its name
-abbrev pub marked : (ℕ → Bool) → LineModel → TreeLineModel
-marked going l = record { number = l.number; text = marks going l.depth ++ l.name }
+-- the line of a box: its number, and its name with the marks before it
+abbrev pub marked : Number → (ℕ → Bool) → BoxModel → TreeLineModel
+marked by going b = record { number = number_in by b.sums; text = marks going b.depth ++ shown_name by b }
 
-abbrev pub drawn_lines : List LineModel → List TreeLineModel
-drawn_lines [] = []
-drawn_lines (l ∷ ls) = marked (goes_on ls) l ∷ drawn_lines ls
+-- the lines of boxes that come depth first
+abbrev pub drawn_lines : Number → List BoxModel → List TreeLineModel
+drawn_lines by [] = []
+drawn_lines by (b ∷ bs) = marked by (goes_on bs) b ∷ drawn_lines by bs

@@ -1,131 +1,147 @@
-//! The boxes of a tree of directories and files, as HTML. Each box is inside the box of the directory above it.
+//! The boxes of directories, files and rests, as HTML. Each box is inside the box of the directory above it, in a strip of this.
 
-ghost use Rattle.std.specs.Prelude.{◌≡◌, ◌+◌, ◌-◌, ◌==◌, if◌then◌else◌, ◌++◌, IfOk, OnOk, min};
-ghost use Rattle.lc_rows.specs.ShownRows.{number_in};
-ghost use Rattle.lc_picture.specs.Boxes.{boxes_in, closings, label, left_beside, next_box, opening, rest_in, tag, tag_end};
-ghost use Rattle.lc_picture.specs.Pieces.{piece_text, text_of};
+ghost use Rattle.std.specs.Prelude.{◌≡◌, ◌+◌, ◌-◌, ◌++◌, IfOk, OnOk, length, min};
+ghost use Rattle.lc_picture.specs.Nested.{boxes_in, closings, label, label_tag, link, next_box, next_strip, opening, strip_tag, tag, title_of};
+ghost use Rattle.lc_picture.specs.Pieces.{text_of};
 
+use crate::box_names::push_box_name;
 use crate::drawn_box::DrawnBox;
 use crate::escaping::push_path;
 use crate::scale::Scale;
-use crate::space::{push_drawn_number, push_space};
-use crate::sums::{push_number, push_share, push_sums};
+use crate::strips::{first_number, strip_number};
+use crate::sums::{push_count, push_number, push_share, push_sums};
 use lc_rows::number_in;
 use lc_sheet::Number;
-use lc_walk::Sums;
 use std::alloc::AllocError;
 
-/// The number of levels of directories whose boxes are open when the page is loaded. The boxes of the next level are folded, but also seen.
-const OPEN_LEVELS: usize = 7;
-
-/// Returns `number` without the numbers `by` of the boxes directly in a box of depth `depth`. `after` has the boxes that follow that box,
-/// depth first.
-fn left_beside<'a>(by: Number, depth: usize, number: u128, after: &[DrawnBox<'a>]) -> u128
-    ensures { result ≡ left_beside by depth number after.now }
+/// Appends the tag of the label of a directory, which is a link to the directory's box.
+fn push_link(text: &mut Vec<u8>, place: usize) -> Result<(), AllocError>
+    ensures { OnOk result (text.new.items ≡ text.old.items ++ text_of (link place)) }
 {
-    let mut left = number;
-    for next in after {
-        if next.depth <= depth {
-            return left;
-        }
-        if next.depth - depth == 1 {
-            left = left.saturating_sub(number_in(by, next.sums));
-        }
-    }
-    left
+    text.extend_from_slice(b"\" id=\"b")?;
+    push_number(text, place as u128)?;
+    text.extend_from_slice(b"\"><a href=\"#b")?;
+    push_number(text, place as u128)?;
+    text.extend_from_slice(b"\" title=\"")?;
+    Ok(())
 }
 
-/// Returns the number `by`, such as lines, of the rest of a directory: of its small directories, and of its files that have no boxes.
-/// This is what the directory has besides the boxes directly in its own box. `after` has the boxes that follow the directory's box. A file
-/// has no rest.
-pub(crate) fn rest_in<'a>(by: Number, drawn: &DrawnBox<'a>, after: &[DrawnBox<'a>]) -> u128
-    ensures { result ≡ rest_in by drawn.now after.now }
+fn push_label_tag(text: &mut Vec<u8>, place: usize, drawn: &DrawnBox<'_>) -> Result<(), AllocError>
+    ensures { OnOk result (text.new.items ≡ text.old.items ++ text_of (label_tag place drawn.now)) }
 {
+    if drawn.is_rest {
+        return text.extend_from_slice(b"\"><a title=\"others in ");
+    }
     if drawn.is_file {
-        return 0;
+        return text.extend_from_slice(b"\"><a title=\"");
     }
-    left_beside(by, drawn.depth, number_in(by, drawn.sums), after)
-}
-
-/// Returns the end of a box's opening tag, with `open` if the page shows the box open at first, and the beginning of the title.
-fn tag_end(is_open: bool) -> &'static [u8]
-    ensures { result.now ≡ piece_text (tag_end is_open) }
-{
-    if is_open {
-        b"\" open><summary title=\""
-    } else {
-        b"\"><summary title=\""
-    }
+    push_link(text, place)
 }
 
 fn push_tag(
     text: &mut Vec<u8>,
     by: Number,
-    depth: usize,
-    colour: usize,
-    sums: Sums,
+    place: usize,
+    drawn: &DrawnBox<'_>,
 ) -> Result<(), AllocError>
-    ensures { OnOk result (text.new.items ≡ text.old.items ++ text_of (tag by depth colour sums)) }
+    ensures { OnOk result (text.new.items ≡ text.old.items ++ text_of (tag by place drawn.now)) }
 {
-    text.extend_from_slice(b"<details class=\"e")?;
-    push_number(text, colour as u128)?;
+    text.extend_from_slice(b"<div class=\"b e")?;
+    push_number(text, drawn.colour as u128)?;
     text.extend_from_slice(b"\" style=\"--n:")?;
-    push_number(text, number_in(by, sums))?;
-    text.extend_from_slice(tag_end(depth < OPEN_LEVELS))?;
+    push_number(text, number_in(by, drawn.sums))?;
+    push_label_tag(text, place, drawn)?;
     Ok(())
 }
 
-fn push_label(
-    text: &mut Vec<u8>,
-    scale: Scale,
-    own_name: &[u8],
-    n: u128,
-    made: &mut String,
-) -> Result<(), AllocError>
-    ensures { OnOk result (text.new.items ≡ text.old.items ++ text_of (label scale own_name.now n)) }
-{
-    text.extend_from_slice(b"\"><b>")?;
-    push_path(text, own_name, made)?;
-    text.extend_from_slice(b"</b> <span>")?;
-    push_drawn_number(text, scale, n, made)?;
-    text.extend_from_slice(b"</summary><div>")?;
-    Ok(())
-}
-
-/// Appends the beginning of a box: its tag, its title, its label, and the box of its rest.
-fn push_opening(
+fn push_title(
     text: &mut Vec<u8>,
     scale: Scale,
     drawn: &DrawnBox<'_>,
-    rest: u128,
     made: &mut String,
 ) -> Result<(), AllocError>
-    ensures { OnOk result (text.new.items ≡ text.old.items ++ text_of (opening scale drawn.now rest)) }
+    ensures { OnOk result (text.new.items ≡ text.old.items ++ text_of (title_of scale drawn.now)) }
 {
-    push_tag(text, scale.by, drawn.depth, drawn.colour, drawn.sums)?;
     push_path(text, drawn.path, made)?;
     text.extend_from_slice(b": ")?;
     push_sums(text, drawn.sums, made)?;
     push_share(text, scale, number_in(scale.by, drawn.sums))?;
-    push_label(
-        text,
-        scale,
-        drawn.own_name,
-        number_in(scale.by, drawn.sums),
-        made,
-    )?;
-    push_space(text, scale, drawn.rest_colour, drawn.small, rest, made)?;
     Ok(())
 }
 
-/// Appends the closing tags of `count` boxes.
+/// Appends the label of a box, and the tag of the first strip in it, which has the number `strip`.
+fn push_label(
+    text: &mut Vec<u8>,
+    by: Number,
+    strip: u128,
+    drawn: &DrawnBox<'_>,
+    made: &mut String,
+) -> Result<(), AllocError>
+    ensures { OnOk result (text.new.items ≡ text.old.items ++ text_of (label by strip drawn.now)) }
+{
+    text.extend_from_slice(b"\"><b>")?;
+    push_box_name(text, by, drawn, made)?;
+    text.extend_from_slice(b"</b> <span>")?;
+    push_count(text, number_in(by, drawn.sums), made)?;
+    text.extend_from_slice(b"</span></a><div style=\"--n:")?;
+    push_number(text, strip)?;
+    text.extend_from_slice(b"\">")?;
+    Ok(())
+}
+
+/// Appends the beginning of a box: its tag, its title and its label. `after` has the boxes that follow it, whose number tells it from all
+/// other boxes.
+fn push_opening(
+    text: &mut Vec<u8>,
+    scale: Scale,
+    drawn: &DrawnBox<'_>,
+    after: &[DrawnBox<'_>],
+    made: &mut String,
+) -> Result<(), AllocError>
+    ensures { OnOk result (text.new.items ≡ text.old.items ++ text_of (opening scale drawn.now after.now)) }
+{
+    let strip = first_number(scale.by, drawn.depth, after)?;
+    push_tag(text, scale.by, after.len(), drawn)?;
+    push_title(text, scale, drawn, made)?;
+    push_label(text, scale.by, strip, drawn, made)?;
+    Ok(())
+}
+
+/// Appends the closing tags of `count` boxes and of their last strips.
 fn push_closings(text: &mut Vec<u8>, count: usize) -> Result<(), AllocError>
     ensures { OnOk result (text.new.items ≡ text.old.items ++ text_of (closings count)) }
 {
     let mut rest = count;
     'boxes: while rest > 0 {
-        text.extend_from_slice(b"</div></details>\n")?;
+        text.extend_from_slice(b"</div></div>\n")?;
         rest -= 1;
+    }
+    Ok(())
+}
+
+/// Appends the end of a strip and the tag of the next one, which has this number.
+fn push_next_strip(text: &mut Vec<u8>, number: u128) -> Result<(), AllocError>
+    ensures { OnOk result (text.new.items ≡ text.old.items ++ text_of (next_strip number)) }
+{
+    text.extend_from_slice(b"</div><div style=\"--n:")?;
+    push_number(text, number)?;
+    text.extend_from_slice(b"\">")?;
+    Ok(())
+}
+
+/// Appends the beginning of a further strip, if a box that is not the first in the box around it begins one.
+fn push_strip_tag(
+    text: &mut Vec<u8>,
+    by: Number,
+    within: usize,
+    drawn: &DrawnBox<'_>,
+    after: &[DrawnBox<'_>],
+) -> Result<(), AllocError>
+    ensures { OnOk result (text.new.items ≡ text.old.items ++ text_of (strip_tag by within drawn.now after.now)) }
+{
+    if drawn.begins_strip && drawn.depth < within {
+        let number = strip_number(by, drawn, after)?;
+        push_next_strip(text, number)?;
     }
     Ok(())
 }
@@ -145,12 +161,12 @@ fn push_box<'a>(
 {
     let next = within.min(drawn.depth).checked_add(1).ok_or(AllocError)?;
     push_closings(text, within.saturating_sub(drawn.depth))?;
-    let rest = rest_in(scale.by, drawn, after);
-    push_opening(text, scale, drawn, rest, made)?;
+    push_strip_tag(text, scale.by, within, drawn, after)?;
+    push_opening(text, scale, drawn, after, made)?;
     Ok(next)
 }
 
-/// Appends the boxes of directories and files, each inside the box of the directory above it. The list of boxes is depth first.
+/// Appends the boxes of directories, files and rests, each inside the box of the directory above it. The list of boxes is depth first.
 pub(crate) fn push_boxes<'a>(
     text: &mut Vec<u8>,
     scale: Scale,

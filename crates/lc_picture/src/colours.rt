@@ -9,6 +9,9 @@ use lc_rows::ShownRow;
 /// The colour of all extensions that are not among the first eight of the chart.
 pub(crate) const SHARED_COLOUR: usize = 8;
 
+/// The colour of the rests of directories.
+pub(crate) const REST_COLOUR: usize = 9;
+
 /// Returns the path of a row's directory, or the empty path if the row has no directory.
 pub(crate) fn path_of<'a>(row: &ShownRow<'a>) -> &'a [u8]
     ensures { result.now ≡ path_of row.now }

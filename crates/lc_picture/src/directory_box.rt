@@ -34,11 +34,12 @@ fn box_of<'a>(
         own_name: own_part(path),
         depth: level_of(path),
         colour: SHARED_COLOUR,
-        rest_colour: SHARED_COLOUR,
+        begins_strip: false,
         sums: row.sums,
         kinds,
         small,
         is_file: false,
+        is_rest: false,
     }
 }
 

@@ -50,11 +50,12 @@ fn box_of_file(file: &FileLine) -> DrawnBox<'_>
         own_name: name_of(&file.path),
         depth: 0,
         colour: SHARED_COLOUR,
-        rest_colour: SHARED_COLOUR,
+        begins_strip: false,
         sums: sums_of(file.count),
         kinds: &[],
         small: SmallDirectories::none(),
         is_file: true,
+        is_rest: false,
     }
 }
 

@@ -3,8 +3,8 @@
 ghost use Rattle.lc_picture.specs.Inside.{InsideLaw};
 ghost use Rattle.lc_picture.specs.Places.{FallingLaw};
 ghost use Rattle.lc_picture.specs.Laws.{ChainsLaw, ColoursLaw, DrawnLaw, JoinedDepthsLaw, LargeLaw, NestingLaw, OutlineLaw, ReportLaw};
-ghost use Rattle.lc_picture.specs.Laws.{ShownLaw, SumsLaw, TagLaw, UnescapedLaw};
-ghost use Rattle.lc_picture.specs.TreeLaws.{TreeSumsLaw};
+ghost use Rattle.lc_picture.specs.Laws.{ShownLaw, StripsLaw, TagLaw, UnescapedLaw};
+ghost use Rattle.lc_picture.specs.TreeLaws.{SumsLaw, TreeSumsLaw};
 
 /// The law that a name in the page neither begins nor ends a tag or an attribute. If the character references in the name are decoded, the
 /// result is the name as terminals show it.
@@ -14,9 +14,8 @@ pub fn names_are_never_markup()
 {}
 
 /// The law that a page shows the following names and numbers, and no others but numbers in tags. At the top are the title, the chosen
-/// files, the sums over all files, the number of errors, the first errors, and how many errors are not listed. Next comes each drawn
-/// directory and file once, with its sums and its share. The box of a directory also shows the rest, which is what has no box of its own:
-/// its number, such as lines, its share, and how many small directories are in it. Last come the rows of the chart, and the sums over the
+/// files, the sums over all files, the number of errors, the first errors, and how many errors are not listed. Next come the legend, and
+/// each drawn directory, file and rest once, with its sums and its share. Last come the rows of the chart, and the sums over the
 /// other rows, with their shares. On the page of a report, each row of the chart is an extension. Of the directories of at most 250 names,
 /// exactly those are drawn, alone or in a chain, whose number, such as lines, is large enough.
 pub fn a_page_shows_each_directory_once()
@@ -37,10 +36,17 @@ pub fn a_chain_is_its_last_directory()
     ensures depths { JoinedDepthsLaw }
 {}
 
-/// The law that the numbers of the boxes directly in a directory's box, and that of its rest, add up to the number of the directory, unless
-/// the boxes have more than the directory.
+/// The law that the numbers of the boxes directly in a directory's box, of which the last is that of its rest, add up to the number of the
+/// directory. The directory must have at least as much as the boxes without the rest. In a tree this holds for each line with lines below
+/// it, down to any level.
 pub fn a_directory_is_its_boxes_and_its_rest()
-    ensures { SumsLaw }
+    ensures boxes { SumsLaw }
+    ensures levels { TreeSumsLaw }
+{}
+
+/// The law that the strips in a box, joined, are the boxes directly inside it, each once and from the first to the last.
+pub fn strips_are_the_boxes_in_a_box()
+    ensures { StripsLaw }
 {}
 
 /// The law that each row of the chart has the colour in which boxes show its extension.
@@ -67,10 +73,4 @@ pub fn larger_boxes_come_first()
 /// The law that no name adds a tag to the boxes or takes one away. Apart from the names themselves, the boxes are the same for any names.
 pub fn names_change_no_tag()
     ensures { OutlineLaw }
-{}
-
-/// The law that the numbers of a tree add up: if lines are shown below the line of a directory, the numbers of those directly below it add
-/// up to the directory's number. The number of each box must be at least the sum of those of the boxes directly inside it.
-pub fn lines_of_a_tree_add_up()
-    ensures { TreeSumsLaw }
 {}

@@ -3,9 +3,9 @@
 ghost use Rattle.std.specs.Prelude.{◌≡◌, ◌++◌, IfOk, OnOk, Some};
 ghost use Rattle.lc_rows.specs.Views.{first_of};
 ghost use Rattle.lc_picture.specs.Boxes.{titled};
-ghost use Rattle.lc_picture.specs.Kinds.{all_coloured};
-ghost use Rattle.lc_picture.specs.Page.{AreBoxesOf, IsPageOf, chart_options, chart_part, chart_rows, drawn_number};
-ghost use Rattle.lc_picture.specs.Page.{body_pieces, scale_of, tree_part};
+ghost use Rattle.lc_picture.specs.Kinds.{all_painted};
+ghost use Rattle.lc_picture.specs.Page.{AreBoxesOf, ArePageBoxes, IsPageOf, chart_options, chart_part, chart_rows, drawn_number};
+ghost use Rattle.lc_picture.specs.Page.{scale_of, tree_part};
 ghost use Rattle.lc_picture.specs.Pieces.{text_of};
 
 use crate::boxes::push_boxes;
@@ -16,14 +16,17 @@ use crate::drawn_box::DrawnBox;
 use crate::faults::push_faults;
 use crate::file_box::{large_files, with_files};
 use crate::head::head_of;
-use crate::kinds::all_coloured;
+use crate::kinds::all_painted;
 use crate::largest_first::largest_first;
+use crate::layout::strip_beginnings;
+use crate::legend::push_legend;
+use crate::rests::with_rests;
 use crate::scale::Scale;
-use crate::style::{chart_begin, explanation, page_end, tree_begin, tree_end};
+use crate::style::{chart_begin, explanation, legend_begin, page_end, tree_begin, tree_end};
 use crate::sums::number_word;
 use lc_rows::{Shown, ShownRow, number_in, shown_rows, tree_rows};
 use lc_sheet::{Columns, Lines, Number, Output, Section, Sheet, TableOptions};
-use lc_walk::{FaultLine, FileLine, Report, Sums};
+use lc_walk::{FileLine, Report, Sums};
 use std::alloc::{AllocError, Global};
 
 /// The columns by which the rows of the chart are grouped: the extension alone.
@@ -54,35 +57,34 @@ const KIND_COLUMNS: Columns = Columns {
     ..TREE_COLUMNS
 };
 
-fn push_tree_part(
-    text: &mut Vec<u8>,
+/// Returns the part of a page with the legend and the boxes.
+fn tree_of(
+    alloc: Global,
     scale: Scale,
+    chart: &[ShownRow<'_>],
     boxes: &[DrawnBox<'_>],
-    made: &mut String,
-) -> Result<(), AllocError>
-    ensures { OnOk result (text.new.items ≡ text.old.items ++ text_of (tree_part scale boxes.now)) }
+) -> Result<Vec<u8>, AllocError>
+    ensures { IfOk result (λ text. text.items ≡ text_of (tree_part scale chart.now boxes.now)) }
 {
+    let mut text = Vec::new(alloc);
+    let mut made = String::new(alloc);
+    text.extend_from_slice(legend_begin())?;
+    push_legend(&mut text, scale.by, chart, &mut made)?;
     text.extend_from_slice(tree_begin())?;
-    push_boxes(text, scale, boxes, made)?;
+    push_boxes(&mut text, scale, boxes, &mut made)?;
     text.extend_from_slice(tree_end())?;
     text.extend_from_slice(number_word(scale.by))?;
     text.extend_from_slice(explanation())?;
-    Ok(())
+    Ok(text)
 }
 
-/// Appends what follows the head of a page: the errors, the boxes and the chart.
-fn push_body<R: Lines, T: Lines, F: Lines, S: Lines, E: Lines>(
+fn push_chart_part<R: Lines, T: Lines, F: Lines, S: Lines, E: Lines>(
     text: &mut Vec<u8>,
-    scale: Scale,
-    faults: &[FaultLine],
     sheet: &Sheet<'_, R, T, F, S, E>,
-    boxes: &[DrawnBox<'_>],
     made: &mut String,
 ) -> Result<(), AllocError>
-    ensures { OnOk result (text.new.items ≡ text.old.items ++ text_of (body_pieces scale faults.now sheet.now boxes.now)) }
+    ensures { OnOk result (text.new.items ≡ text.old.items ++ text_of (chart_part sheet.now)) }
 {
-    push_faults(text, faults, made)?;
-    push_tree_part(text, scale, boxes, made)?;
     text.extend_from_slice(chart_begin())?;
     push_chart(text, sheet, made)?;
     text.extend_from_slice(page_end())?;
@@ -122,7 +124,7 @@ fn first_rows<'a, 'b>(rows: &'b [ShownRow<'a>]) -> &'b [ShownRow<'a>]
 
 /// Returns the boxes of the directories and files whose number `by`, such as lines, is at least `least`, the largest first, from the list
 /// of all files. Each chain of directories is one box. `kinds` are the rows by directory and extension, or none if the boxes get no
-/// colours.
+/// colours. The last box in each directory is that of its rest.
 pub(crate) fn boxes_of<'a>(
     alloc: Global,
     by: Number,
@@ -137,11 +139,21 @@ pub(crate) fn boxes_of<'a>(
     let chains = joined(alloc, by, least, &drawn)?;
     let large = large_files(alloc, TREE_DEPTH, by, least, files)?;
     let all = with_files(alloc, &large, &chains)?;
-    let boxes = largest_first(alloc, by, &all)?;
+    let sorted = largest_first(alloc, by, &all)?;
+    let boxes = with_rests(alloc, by, &sorted)?;
     Ok(boxes)
 }
 
-/// Returns the boxes of a page: in their colours, and with the title of the page as the name of the first.
+/// Makes a title the name of the first box.
+pub(crate) fn put_title<'a>(boxes: &mut Vec<DrawnBox<'a>>, title: &'a [u8])
+    ensures { boxes.new.items ≡ titled title.entry.now boxes.old.items }
+{
+    if let Some(top) = boxes.first_mut() {
+        top.own_name = title;
+    }
+}
+
+/// Returns the boxes of a page: in their colours and strips, and with the title of the page as the name of the first.
 fn page_boxes<'a>(
     alloc: Global,
     title: &'a [u8],
@@ -149,12 +161,11 @@ fn page_boxes<'a>(
     by: Number,
     drawn: &[DrawnBox<'a>],
 ) -> Result<Vec<DrawnBox<'a>>, AllocError>
-    ensures { IfOk result (λ boxes. boxes.items ≡ titled title.entry.now (all_coloured chart.now by drawn.now)) }
+    ensures { IfOk result (λ boxes. ArePageBoxes title.entry.now chart.now by drawn.now boxes.items) }
 {
-    let mut boxes = all_coloured(alloc, chart, by, drawn)?;
-    if let Some(top) = boxes.first_mut() {
-        top.own_name = title;
-    }
+    let begins = strip_beginnings(alloc, by, drawn)?;
+    let mut boxes = all_painted(alloc, chart, by, &begins, drawn)?;
+    put_title(&mut boxes, title);
     Ok(boxes)
 }
 
@@ -174,13 +185,16 @@ fn page_by(
     kinds.shrink_to_fit();
     let least = least_of(PICTURE_PARTS, number_in(by, report.totals));
     let drawn = boxes_of(alloc, by, least, &report.files, &kinds)?;
+    let scale = scale_of(by, report.totals);
     let boxes = page_boxes(alloc, title, chart, by, &drawn)?;
+    let tree = tree_of(alloc, scale, chart, &boxes)?;
     let shown = Shown::with_rows(alloc, report, &chart_options(by), &[], extensions)?;
     let sheet = shown.sheet();
-    let scale = scale_of(by, report.totals);
     let mut made = String::new(alloc);
     let mut text = head_of(alloc, title, chosen, scale.by, &sheet)?;
-    push_body(&mut text, scale, &report.faults, &sheet, &boxes, &mut made)?;
+    push_faults(&mut text, &report.faults, &mut made)?;
+    text.extend_from_slice(&tree)?;
+    push_chart_part(&mut text, &sheet, &mut made)?;
     Ok(text)
 }
 
@@ -194,8 +208,8 @@ fn page_by(
 /// A directory whose path has at most 250 names has a box of its own if its number, such as lines, is at least 1 and at least a thousandth
 /// of the total. So has a file, if its directory has a box. A directory in which all but less than that is in one child directory shares
 /// the box of this child, which then has both names, such as `gpu/drm`. Each box is inside the box of the directory above it. Of the boxes
-/// directly inside one box, the largest comes first. In each directory, one hatched box shows what has no box of its own. A reader can fold
-/// a box to leave its space to other boxes.
+/// directly inside one box, the largest comes first. They are in strips, which divide the space of the box around them. In each directory,
+/// one grey box shows what has no box of its own. The name of a directory is a link that shows its box alone.
 ///
 /// The report must list its files. An error means that an allocation failed or that sums overflow. The sums of a walk never overflow.
 pub fn page(

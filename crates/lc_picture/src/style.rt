@@ -1,7 +1,7 @@
 //! The parts of a page that are the same for every report.
 
 ghost use Rattle.std.specs.Prelude.{◌≡◌};
-ghost use Rattle.lc_picture.specs.Page.{chart_begin, explanation, page_end, tree_begin, tree_end};
+ghost use Rattle.lc_picture.specs.Page.{chart_begin, explanation, legend_begin, page_end, tree_begin, tree_end};
 ghost use Rattle.lc_picture.specs.Style.{body_begin, page_begin, style, style_begin};
 
 /// Returns the beginning of a page, up to its title.
@@ -12,9 +12,9 @@ pub(crate) fn page_begin() -> &'static [u8]
       <meta name=\"viewport\" content=\"width=device-width\">\n<title>"
 }
 
-/// Returns the style of a page's parts. A box is next to its parent, and space is divided by shares. The columns of boxes share the width:
-/// `--k` is how many there are. Text flows in columns as high as its box, so a text that does not fit goes to a second column, out of
-/// sight.
+/// Returns the style of a page's parts. A box divides its space by the numbers of its strips, and a strip by those of its boxes. Both have
+/// neither border nor padding at the sides that are divided, which flex adds before it divides. A label that is lower than a line or
+/// narrower than three letters is hidden. A box that a link names lies over the whole tree.
 #[tactic(auto, unfolding(crate::specs::Style::style))]
 pub(crate) fn style() -> &'static [u8]
     ensures { result.now ≡ style }
@@ -22,48 +22,36 @@ pub(crate) fn style() -> &'static [u8]
     b":root{color-scheme:light dark}\nbody{margin:.75rem 1rem;font:.875rem/1.35 system-ui,sans-serif}\n\
       h1{margin:0;font-size:1.5rem;line-height:1.2;overflow-wrap:anywhere}\nh2{margin:1.5rem 0 .5rem;font-size:1.1rem}\n\
       .by{margin:0;overflow-wrap:anywhere}\n.by::first-letter{text-transform:uppercase}\n\
-      dl{display:flex;flex-wrap:wrap;gap:0 2rem;margin:.3rem 0 .5rem}\n\
+      dl{display:flex;flex-wrap:wrap;gap:0 2rem;margin:.3rem 0}\n\
       dl div{display:flex;flex-direction:row-reverse;align-items:baseline;gap:.4em}\n\
       dd{margin:0;font-size:1.3rem;line-height:1.2;font-variant-numeric:tabular-nums}\n\
       ul{max-height:9em;overflow:auto;overflow-wrap:anywhere}\n\
-      .tree{--k:1;--w:max(9rem,100cqw/var(--k));--line:linear-gradient(#888,#888) 0 0/100% clamp(0px,100% - 3px,1px) \
-      no-repeat;container-type:inline-size;height:calc(100vh - 6.25rem);min-height:30rem;overflow:auto;font-size:.75rem;\
-      line-height:0}\n\
-      .tree:has(>*>div>[open]>div>*){--k:2}\n.tree:has(>*>div>[open]>div>[open]>div>*){--k:3}\n\
-      .tree:has(>*>div>[open]>div>[open]>div>[open]>div>*){--k:4}\n\
-      .tree:has(>*>div>[open]>div>[open]>div>[open]>div>[open]>div>*){--k:5}\n\
-      .tree:has(>*>div>[open]>div>[open]>div>[open]>div>[open]>div>[open]>div>*){--k:6}\n\
-      .tree:has(>*>div>[open]>div>[open]>div>[open]>div>[open]>div>[open]>div>[open]>div>*){--k:7}\n\
-      .tree>details{height:100%}\ndetails{position:relative;flex:var(--n) 0 0;min-width:var(--w)}\n\
-      details:hover,details:focus-within,details i:hover{min-height:2rem}\ndetails:not([open]){flex-grow:0;min-height:1rem}\n\
-      details details details details details details details details:not([open]){flex-grow:var(--n);min-height:0}\n\
-      details>div{position:absolute;inset:0 0 0 var(--w);display:flex;flex-direction:column}\ndetails>:empty{display:none}\n\
-      summary,details i{display:block;box-sizing:border-box;overflow:hidden;padding:0 .3rem;columns:1;column-fill:auto;\
-      orphans:1;widows:1;container-type:size;background:var(--line) var(--c)}\n\
-      summary{position:absolute;inset:0 auto 0 0;width:var(--w);border-right:1px solid #888;outline-offset:-2px;\
-      cursor:pointer}\n\
-      details:not([open])>summary,summary:has(+:empty){right:0;width:auto;border:0}\n\
-      .tree>details>summary{inset:0 0 auto;width:auto;height:1.1rem}\n.tree>details>div{inset:1.1rem 0 0}\n\
-      details i{order:1;flex:var(--n) 0 0;min-width:var(--w);font-style:normal;\
-      background:var(--line),repeating-linear-gradient(135deg,#0000 0 4px,color-mix(in srgb,Canvas 45%,#0000) 4px 6px) \
-      fixed var(--c)}\n\
-      summary::before,details i::before{content:\"\";display:block;height:.1px}\n\
-      summary>*,details i>*{display:inline-block;max-width:100%;overflow-wrap:anywhere;line-height:1.2}\n\
-      @media screen{summary::before,details i::before{height:clamp(.1px,10cqh - 3px,3px)}\n\
-      summary>*,details i>*{font-size:clamp(.75em,80cqh,1em);line-height:clamp(1.06em,100cqh - .2px,1.2em)}}\n\
-      details:not([open])>summary:not(:has(+:empty))>b::before{content:\"+ \"}\n\
-      summary:has(+:empty)>b,i>b{font-weight:normal}\ntable{border-collapse:collapse;font-variant-numeric:tabular-nums}\n\
-      th,td{padding:0 .6rem;text-align:right}\ntr>:first-child{text-align:left}\n.bar{display:flex;width:18rem;height:.8em}\n\
-      .bar i,.bar u{flex-grow:var(--n)}\n.bar i{outline:1px solid #888;background:var(--c)}\n\
+      .legend{display:flex;flex-wrap:wrap;gap:.2rem .4rem;margin:0 0 .4rem;font-size:.75rem}\n\
+      .legend span{padding:0 .4em;background:var(--c);overflow-wrap:anywhere}\n.legend a{visibility:hidden}\n\
+      body:has(:target) .legend a{visibility:visible}\n\
+      .tree{position:relative;display:flex;height:calc(100vh - 8.5rem);min-height:30rem;font-size:.7rem;line-height:1.25}\n\
+      .b{flex:var(--n) 1 0;min-width:0;min-height:0;overflow:hidden;display:flex;flex-direction:column;background:var(--c);\
+      \nscroll-margin-top:100vh;outline:1px solid color-mix(in srgb,CanvasText 35%,#0000);outline-offset:-.5px}\n\
+      .b:target{position:absolute;inset:0;z-index:1}\n\
+      .b>div{flex:var(--n) 1 0;min-width:0;min-height:0;display:flex;margin:0 2px}\n\
+      .b>div:last-child{border-bottom:2px solid #0000}\n\
+      .b>a{flex:0 1 1.25em;min-height:0;padding:0 .25em;overflow:hidden;white-space:nowrap;text-overflow:ellipsis;\
+      color:inherit;text-decoration:none;container-type:size}\n.b>a:has(+:empty){flex-grow:1}\n.b>div:empty{display:none}\n\
+      .b>a[href]:hover b{text-decoration:underline}\n.b>a:focus-visible{outline:2px solid;outline-offset:-2px}\n\
+      .b>a>span{opacity:.8}\n\
+      @container (height>2.5em) and (width<9em){.b>a>span{display:block;overflow:hidden;text-overflow:ellipsis}}\n\
+      @container (height<1.15em) or (width<2.4em){.b>a>:is(b,span){display:none}}\n\
+      table{border-collapse:collapse;font-variant-numeric:tabular-nums}\nth,td{padding:0 .6rem;text-align:right}\n\
+      tr>:first-child{text-align:left}\n.bar{display:flex;width:18rem;height:.8em}\n.bar i,.bar u{flex-grow:var(--n)}\n\
+      .bar i{outline:1px solid #888;background:var(--c)}\n\
       .e0{--c:#7b9cff}.e1{--c:#ee9d38}.e2{--c:#85ca87}.e3{--c:#ce7283}.e4{--c:#3baeaf}\n\
-      .e5{--c:#ffe46e}.e6{--c:#d8b4e5}.e7{--c:#b38552}.e8{--c:#d0d0d0}\n\
+      .e5{--c:#ffe46e}.e6{--c:#d8b4e5}.e7{--c:#b38552}.e8{--c:#d0d0d0}\n.e9{--c:color-mix(in srgb,CanvasText 7%,Canvas)}\n\
       @media (prefers-color-scheme:dark){.e0{--c:#0761a7}.e1{--c:#713f00}.e2{--c:#3e6b44}.e3{--c:#64081a}.e4{--c:#0414b8}\n\
       .e5{--c:#7d6e0a}.e6{--c:#623f6a}.e7{--c:#362f38}.e8{--c:#555555}}\n\
       @media (max-width:45rem){tbody{display:grid;grid-template-columns:repeat(5,auto);font-size:.75rem}\n\
       tr{display:contents}tr>:first-child,tr>:last-child{grid-column:1/-1}th,td{padding:0 .2rem}\n\
       .bar{width:auto;margin-bottom:.4rem}}\n\
-      @media print{.tree{--w:calc(100cqw/var(--k));height:21cm;overflow:hidden;break-inside:avoid;font-size:7pt;\
-      print-color-adjust:exact}}\n"
+      @media print{.tree{height:21cm;break-inside:avoid;font-size:6pt;print-color-adjust:exact}}\n"
 }
 
 /// Returns the part of a page between its title and its style.
@@ -80,26 +68,33 @@ pub(crate) fn body_begin() -> &'static [u8]
     b"</style>\n</head>\n<body>\n<h1>"
 }
 
-/// Returns the part of a page before its boxes.
+/// Returns the part of a page before its legend.
+pub(crate) fn legend_begin() -> &'static [u8]
+    ensures { result.now ≡ legend_begin }
+{
+    b"<p class=\"legend\">\n"
+}
+
+/// Returns the part of a page between its legend and its boxes.
 pub(crate) fn tree_begin() -> &'static [u8]
     ensures { result.now ≡ tree_begin }
 {
-    b"<div class=\"tree\">\n"
+    b"<a href=\"#\">Show all</a>\n</p>\n<div class=\"tree\">\n"
 }
 
 /// Returns the part of a page between its boxes and the name of the number that they show.
 pub(crate) fn tree_end() -> &'static [u8]
     ensures { result.now ≡ tree_end }
 {
-    b"</div>\n<p>Each box is as tall as its share of the "
+    b"</div>\n<p>Each box has its share of the "
 }
 
 /// Returns the part of a page after the name of the number that the boxes show.
 pub(crate) fn explanation() -> &'static [u8]
     ensures { result.now ≡ explanation }
 {
-    b", in the colour of the extension that has most of them. A hatched box shows the directories and files with less than a thousandth \
-      of all. Fold a box to make room for the rest.</p>\n"
+    b" in the box around it, and the colour of the extension that has most of them. A grey box shows the directories and files with \
+      less than a thousandth of all. Click the name of a directory to see it alone.</p>\n"
 }
 
 /// Returns the part of a page before the rows of the chart.

@@ -1,11 +1,14 @@
-//! The marks that draw a tree before the names of its lines.
+//! The lines of a tree, with the marks that draw the tree before their names.
 
 ghost use Rattle.std.specs.Prelude.{◌≡◌, ◌==◌, ◌++◌, nat_lt, if◌then◌else◌, ℕ, false, IfOk, OnOk, reverse};
 ghost use Rattle.std.specs.List.{slice_index_or};
 ghost use Rattle.lc_picture.specs.TreeMarks.{branch, drawn_lines, marked, marks, trunk, trunks};
 
-use crate::tree_lines::Line;
+use crate::box_names::push_shown_name;
+use crate::drawn_box::DrawnBox;
 use lc_formats::TreeLine;
+use lc_rows::number_in;
+use lc_sheet::Number;
 use std::alloc::{AllocError, Global};
 
 fn trunk(goes_on: bool) -> &'static str
@@ -55,15 +58,22 @@ fn push_marks(text: &mut Vec<u8>, going: &[bool], depth: usize) -> Result<(), Al
     Ok(())
 }
 
-/// Makes a line with the marks before its name.
-fn drawn_line(alloc: Global, going: &[bool], line: &Line) -> Result<TreeLine, AllocError>
-    ensures { IfOk result (λ drawn. drawn ≡ marked (λ level. slice_index_or going.now level false) line.now) }
+/// Makes the line of a box: its number, and its name with the marks before it.
+fn drawn_line(
+    alloc: Global,
+    by: Number,
+    going: &[bool],
+    drawn: &DrawnBox<'_>,
+) -> Result<TreeLine, AllocError>
+    ensures { IfOk result (λ line. line ≡ marked by (λ level. slice_index_or going.now level false) drawn.now) }
 {
+    let mut name = String::new(alloc);
+    push_shown_name(&mut name, by, drawn)?;
     let mut text = Vec::new(alloc);
-    push_marks(&mut text, going, line.depth)?;
-    text.extend_from_slice(&line.name)?;
+    push_marks(&mut text, going, drawn.depth)?;
+    text.extend_from_slice(name.as_bytes())?;
     Ok(TreeLine {
-        number: line.number,
+        number: number_in(by, drawn.sums),
         text,
     })
 }
@@ -78,17 +88,21 @@ fn next_going(going: &mut Vec<bool>, depth: usize) -> Result<(), AllocError>
     Ok(())
 }
 
-/// Returns the lines with the marks before their names, the first line first. `lines` has the last line first.
-pub(crate) fn drawn_lines(alloc: Global, lines: &[Line]) -> Result<Vec<TreeLine>, AllocError>
-    ensures { IfOk result (λ drawn. drawn.items ≡ drawn_lines (reverse lines.now)) }
+/// Returns the lines of boxes, the first line first. `boxes` has the last box first.
+pub(crate) fn drawn_lines(
+    alloc: Global,
+    by: Number,
+    boxes: &[DrawnBox<'_>],
+) -> Result<Vec<TreeLine>, AllocError>
+    ensures { IfOk result (λ lines. lines.items ≡ drawn_lines by (reverse boxes.now)) }
 {
-    let mut drawn = Vec::with_capacity(alloc, lines.len())?;
+    let mut lines = Vec::with_capacity(alloc, boxes.len())?;
     let mut going = Vec::new(alloc);
-    for line in lines {
-        let next = drawn_line(alloc, &going, line)?;
-        drawn.push(next)?;
-        next_going(&mut going, line.depth)?;
+    for drawn in boxes {
+        let next = drawn_line(alloc, by, &going, drawn)?;
+        lines.push(next)?;
+        next_going(&mut going, drawn.depth)?;
     }
-    drawn.reverse();
-    Ok(drawn)
+    lines.reverse();
+    Ok(lines)
 }

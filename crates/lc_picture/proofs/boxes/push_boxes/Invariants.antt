@@ -1,5 +1,5 @@
 use Rattle.std.proofs.Common.{◌≡◌, ◌++◌, drop}
-use Rattle.lc_picture.specs.{Boxes.boxes_in, Pieces.text_of}
+use Rattle.lc_picture.specs.{Nested.boxes_in, Pieces.text_of}
 use Rattle.lc_picture.proofs.boxes.push_boxes.Given as goal
 
 abbrev pub invariant-loop-index : goal.invariant-loop-index

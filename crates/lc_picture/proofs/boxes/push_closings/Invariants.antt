@@ -1,5 +1,5 @@
 use Rattle.std.proofs.Common.{◌≡◌, ◌++◌}
-use Rattle.lc_picture.specs.{Boxes.closings, Pieces.text_of}
+use Rattle.lc_picture.specs.{Nested.closings, Pieces.text_of}
 use Rattle.lc_picture.proofs.boxes.push_closings.Given as goal
 
 abbrev pub invariant-boxes : goal.invariant-boxes

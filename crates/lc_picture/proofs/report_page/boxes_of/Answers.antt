@@ -1,7 +1,7 @@
 use Rattle.std.proofs.Common.{◌≡◌, ℕ, List, ap, ap₂, ◌∙◌, subst}
 use Rattle.lc_rows.specs.RowKeys.{ShownRowModel}
 use Rattle.lc_picture.specs.{Boxes.{BoxModel, drawn_boxes}, Chains.joined, Files.{FileBoxModel, large_files, with_files}, Page.tree_depth}
-use Rattle.lc_picture.specs.Places.{AreLargestFirst}
+use Rattle.lc_picture.specs.{Places.AreLargestFirst, Rests.with_rests}
 use Rattle.lc_picture.proofs.report_page.boxes_of.Goals as goal
 
 pub returns : goal.returns
@@ -19,8 +19,10 @@ returns c =
     record {
       tree = tree;
       are_tree = c.in_ok-tree.ensures;
-      are =
-          subst (λ (bs : List BoxModel). AreLargestFirst by bs c.in_ok-boxes.boxes.items)
+      sorted = c.in_ok-sorted.sorted.items;
+      are_sorted =
+          subst (λ (bs : List BoxModel). AreLargestFirst by bs c.in_ok-sorted.sorted.items)
           (c.deref-5.ensures.value ∙ c.in_ok-all.ensures
-          ∙ ap₂ (λ (fs : List FileBoxModel) (bs : List BoxModel). with_files fs bs) large chains) c.in_ok-boxes.ensures;
+          ∙ ap₂ (λ (fs : List FileBoxModel) (bs : List BoxModel). with_files fs bs) large chains) c.in_ok-sorted.ensures;
+      are = c.in_ok-boxes.ensures ∙ ap (with_rests by) c.deref-6.ensures.value;
     }

@@ -1,8 +1,8 @@
-use Rattle.std.proofs.{Common.{List, ℕ, [], ap, ap₂, reverse, subst, ◌∙◌}, lemmas.List.reverse-reverse}
+use Rattle.std.proofs.Common.{List, ℕ, [], ap, ap₂, subst, ◌∙◌}
 use Rattle.lc_formats.specs.TreeText.{TreeLineModel, tree_text}
 use Rattle.lc_level.specs.Level.{FileLineModel}
 use Rattle.lc_sheet.specs.declared.column.Number.{Number}
-use Rattle.lc_picture.specs.{Boxes.least_of, Page.AreBoxesOf, Tree.{IsTreeOf, lines_of, tree_parts}, TreeLines.LineModel, TreeMarks.drawn_lines}
+use Rattle.lc_picture.specs.{Boxes.least_of, Page.AreBoxesOf, Tree.{IsTreeOf, tree_parts}}
 use Rattle.lc_picture.proofs.report_tree.tree.Goals as goal
 
 pub returns : goal.returns
@@ -18,8 +18,5 @@ returns c =
           (subst (λ (fs : List FileLineModel). AreBoxesOf by c.least_of.result fs [] boxes) c.deref.ensures.value c.in_ok-boxes.ensures);
       is =
           c.in_ok-text.ensures
-          ∙ ap₂ (λ (n : ℕ) (ls : List TreeLineModel). tree_text by n ls) whole
-          (c.deref-3.ensures.value ∙ c.in_ok-drawn.ensures
-          ∙ ap (λ (ls : List LineModel). drawn_lines (reverse ls)) (c.deref-2.ensures.value ∙ c.in_ok-lines.ensures)
-          ∙ ap drawn_lines (reverse-reverse (lines_of c.args.title.now by c.args.levels boxes)));
+          ∙ ap₂ (λ (n : ℕ) (ls : List TreeLineModel). tree_text by n ls) whole (c.deref-2.ensures.value ∙ c.in_ok-lines.ensures);
     })
