@@ -28,7 +28,7 @@ pub(crate) struct CommandHelp {
 
 pub(crate) const LC: CommandHelp = CommandHelp {
     full_name: "lc",
-    usage: "lc [OPTIONS] [DIR]...\n       lc <COMMAND> [OPTIONS] [ARGUMENTS]",
+    usage: "lc [OPTIONS] <DIR>...\n       lc <OPTIONS>\n       lc <COMMAND> [OPTIONS] [ARGUMENTS]",
     about: "Count files, lines and bytes in a source tree, skipping what .gitignore skips",
     after: "Example: lc .",
     after_long: "\

@@ -68,7 +68,8 @@ example: lc count .
 
 Count only what is at or under PATH, under the rules of all of DIR.
 PATH is relative to DIR, such as src/lib; . is all of DIR. May be
-repeated. lc count takes only one DIR then",
+repeated. lc count takes only one DIR then. lc diff counts PATH in OLD
+and in NEW; where PATH does not exist, it could not be read",
     "count only-from: Which files
 help: Count only the paths in FILE, one a line
 brief: Count only the paths that FILE lists
@@ -156,15 +157,15 @@ eol is how the lines end. attr:team is the state of the Git attribute
 team; at most 16 attributes. Without --by, lc count sums by
 ext,text,eol, and lc sum by those of them that every REPORT has",
     "count depth: What is printed
-help: Depth of --by dir [default: 1], of a tree [default: 2]
+help: Depth of --by dir [default: 1], of --format tree [2]
 brief: Cut the directories of rows, or of a tree, at this depth
 example: lc count --by dir --depth 2 .
 
 Cut the directories of --by dir after their first N names, 1 to 256; .
 and .. are no names [default: 1]. A row with N names has all files
 below that directory, and one with fewer names has the files right in
-it. With --format tree, lc count and lc sum show N levels below the
-top [default: 2]",
+it. lc count and lc sum, which have --format tree, show N levels of it
+below the top [default: 2]",
     "count sort: What is printed
 help: Sort by files, lines, blank, bytes or name
 brief: Sort rows and files, largest first, or by name
@@ -181,7 +182,8 @@ example: lc count --top 10 .
 
 Print only the first N rows and the first N lines of --files. A row
 `others` has the sums of the rows that are cut off, except in csv.
-Without --sort, lc count and lc sum print those with the most lines",
+Without --sort, those with the most lines are printed, and in lc diff
+those whose lines changed most",
     "count share: What is printed
 help: Show each row's share, in table and markdown
 brief: Also print the share of each row in the total

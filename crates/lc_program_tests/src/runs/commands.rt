@@ -33,7 +33,8 @@ const CASES: &[Case<'static>] = &[
         status: 2,
         err: b"error: unrecognized subcommand 'cuont'\n\n  \
                tip: a similar command exists: 'count'\n\n\
-               Usage: lc [OPTIONS] [DIR]...\n       \
+               Usage: lc [OPTIONS] <DIR>...\n       \
+               lc <OPTIONS>\n       \
                lc <COMMAND> [OPTIONS] [ARGUMENTS]\n\n\
                For more information, try '--help'.\n\n\
                Example: lc count .\n",
