@@ -34,7 +34,7 @@ pub(crate) fn style() -> &'static [u8]
       \nscroll-margin-top:100vh;outline:1px solid color-mix(in srgb,CanvasText 35%,#0000);outline-offset:-.5px}\n\
       .b:target{position:absolute;inset:0;z-index:1}\n\
       .b>div{flex:var(--n) 1 0;min-width:0;min-height:0;display:flex;margin:0 2px}\n\
-      .b>div:last-child{border-bottom:2px solid #0000}\n\
+      .b:has(>div>div)::after{content:\"\";flex:0 1 2px}\n\
       .b>a{flex:0 1 1.25em;min-height:0;padding:0 .25em;overflow:hidden;white-space:nowrap;text-overflow:ellipsis;\
       color:inherit;text-decoration:none;container-type:size}\n.b>a:has(+:empty){flex-grow:1}\n.b>div:empty{display:none}\n\
       .b>a[href]:hover b{text-decoration:underline}\n.b>a:focus-visible{outline:2px solid;outline-offset:-2px}\n\
