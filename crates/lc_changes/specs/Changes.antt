@@ -9,7 +9,7 @@ use Rattle.lc_walk.specs.declared.tally.sums.Sums.{Sums}
 abbrev pub changed_key : ChangedRow → RowKey
 changed_key r = row_key r.new_row
 
--- the row of parts of both reports: the sums over these parts
+-- a row is made of parts of both reports: it has the sums over them
 abbrev pub IsRowOf : List ShownRowModel → List ShownRowModel → ChangedRow → Type 0
 IsRowOf olds news r = (r.old_sums ≡ sums_of_shown olds) × (r.new_row.sums ≡ sums_of_shown news)
 

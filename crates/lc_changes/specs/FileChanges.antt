@@ -30,11 +30,11 @@ same_path = eq_by_cmp bytes_cmp
 abbrev pub IsOneOf : List FileLineModel → Option FileLineModel → Type 0
 IsOneOf files file = MatchOption file (files ≡ []) (Contains files)
 
--- what becomes of a file that is among some files of the old report to one that is among some files of the new report
+-- a change is made of files of both reports: of one of the old files and of one of the new files, if there are any
 abbrev pub IsFileOf : List FileLineModel → List FileLineModel → FileChangeModel → Type 0
 IsFileOf olds news c = IsOneOf olds c.old_file × IsOneOf news c.new_file
 
--- for each path of a file in some report, a file at this path in each report, or none if the report has none there, in the order of paths
+-- for each path that some report has, a file of each report at this path, or none if the report has none there, in the order of paths
 abbrev pub AreFilesCompared : List FileLineModel → List FileLineModel → List FileChangeModel → Type 0
 AreFilesCompared = AreMerged file_path bytes_cmp changed_path IsFileOf
 

@@ -33,7 +33,7 @@ SelfLaw =
 
 -- ---- rows, and those of tables
 
--- rows of a comparison are those of both tables; and the rows add up to the same sums as both tables
+-- the rows compare two tables, and add up to the same sums as the tables
 pub record HasRowsOf (olds news : List ShownRowModel) (rows : List ChangedRow) : Type 0 where
   pub compared : AreCompared olds news rows
   pub old_total : old_sums_of rows ≡ sums_of_shown olds

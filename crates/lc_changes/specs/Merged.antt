@@ -11,12 +11,12 @@ of_key key cmp k xs = filter (λ x. eq_by_cmp cmp k (key x)) xs
 abbrev pub has_key : {X K : Type 0} → (X → K) → (K → Bool) → List X → Bool
 has_key key keys xs = list_any (λ x. keys (key x)) xs
 
--- whether a line is of the elements that have its key in both lists
+-- a line is made of the elements of both lists that have its key
 abbrev pub IsLineAt : {X L K : Type 0} → (X → K) → (K → K → Ordering) → (L → K) → (List X → List X → L → Type 0) → List X → List X → L
     → Type 0
 IsLineAt key cmp line_key IsOf olds news l = IsOf (of_key key cmp (line_key l) olds) (of_key key cmp (line_key l) news) l
 
--- one such line for each key that an element of some list has, in the order of keys
+-- one such line for each key that an element of either list has, in the order of keys
 pub record AreMerged {X L K : Type 0} (key : X → K) (cmp : K → K → Ordering) (line_key : L → K) (IsOf : List X → List X → L → Type 0)
     (olds news : List X) (lines : List L) : Type 0 where
   pub each : All (IsLineAt key cmp line_key IsOf olds news) lines
@@ -25,7 +25,7 @@ pub record AreMerged {X L K : Type 0} (key : X → K) (cmp : K → K → Orderin
 
 -- ---- lists in the order of keys, which have each key at most once
 
--- a line of an element of the old list, of an element of the new list, or of both; it has their key
+-- a line is made of an element of the old list, of an element of the new list, or of both, and has their key
 pub record IsLineOf {X L K : Type 0} (key : X → K) (line_key : L → K) (IsOf : List X → List X → L → Type 0) (old new : Option X)
     (l : L) : Type 0 where
   pub some : is_some (option_or new old) ≡ true
