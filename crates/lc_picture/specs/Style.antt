@@ -27,16 +27,16 @@ style =
     ++ codes "@container (height>2.5em) and (width<9em){.b>a>span{display:block;overflow:hidden;text-overflow:ellipsis}}\n"
     ++ codes "@container (height<1.15em) or (width<2.4em){.b>a>:is(b,span){display:none}}\n"
     ++ codes "table{border-collapse:collapse;font-variant-numeric:tabular-nums}\nth,td{padding:0 .6rem;text-align:right}\n"
-    ++ codes "tr>:first-child{text-align:left}\n.bar{display:flex;width:18rem;height:.8em}\n.bar i,.bar u{flex-grow:var(--n)}\n"
+    ++ codes "tr>:first-child{text-align:left}\n.bar{display:flex;width:min(18rem,22vw);height:.8em}\n.bar i,.bar u{flex-grow:var(--n)}\n"
     ++ codes ".bar i{outline:1px solid #888;background:var(--c)}\n"
     ++ codes ".e0{--c:#7b9cff}.e1{--c:#ee9d38}.e2{--c:#85ca87}.e3{--c:#ce7283}.e4{--c:#3baeaf}\n"
     ++ codes ".e5{--c:#ffe46e}.e6{--c:#d8b4e5}.e7{--c:#b38552}.e8{--c:#d0d0d0}\n.e9{--c:color-mix(in srgb,CanvasText 7%,Canvas)}\n"
     ++ codes "@media (prefers-color-scheme:dark){.e0{--c:#0761a7}.e1{--c:#713f00}.e2{--c:#3e6b44}.e3{--c:#64081a}.e4{--c:#0414b8}\n"
     ++ codes ".e5{--c:#7d6e0a}.e6{--c:#623f6a}.e7{--c:#362f38}.e8{--c:#555555}}\n"
-    ++ codes "@media (max-width:45rem){tbody{display:grid;grid-template-columns:repeat(5,auto);font-size:.75rem}\n"
+    ++ codes "@media (max-width:45rem){tbody{display:grid;grid-template-columns:repeat(5,auto);font-size:min(.75rem,2.9vw)}\n"
     ++ codes "tr{display:contents}tr>:first-child,tr>:last-child{grid-column:1/-1}th,td{padding:0 .2rem}\n"
     ++ codes ".bar{width:auto;margin-bottom:.4rem}}\n"
-    ++ codes "@media print{.tree{height:21cm;break-inside:avoid;font-size:6pt;print-color-adjust:exact}}\n"
+    ++ codes "@media print{.tree{height:19cm;break-inside:avoid;font-size:6pt;print-color-adjust:exact}}\n"
 
 abbrev pub page_begin : List ℕ
 page_begin =
