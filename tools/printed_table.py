@@ -2,6 +2,8 @@
 
 WORDS = {b"read", b"name", b"twice", b"many", b"long", b"endless"}
 REASONS = [b"", b": no such file or directory", b": permission denied"]
+# The table of a directory that could not be read.
+EMPTY_TABLE = b"ext\ttext\teol\tfiles\tlines\tblank\tbytes\ntotal\t*\t*\t0\t0\t0\t0\ndirectories\t0\nfault\tread\t.\n"
 
 
 def rows_of(text):
