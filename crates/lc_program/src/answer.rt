@@ -17,7 +17,7 @@ pub(crate) struct Answer {
     /// Whether `--fail-if-any` makes the answer a failure: a counted file meets the conditions of `--where`, or the sides of a comparison
     /// differ.
     pub(crate) fails: bool,
-    /// The lines that standard error gets: first what could not be read, and then what there is to say of the options.
+    /// The lines for standard error: first those about paths that could not be read, and then those about options.
     pub(crate) told: String,
 }
 
@@ -31,7 +31,7 @@ impl Model for Answer {
 }
 
 impl Answer {
-    /// Returns an answer of which there is nothing to tell.
+    /// Returns an answer without errors and without lines for standard error.
     pub(crate) fn clean(alloc: Global) -> Answer
         ensures { result ≡ clean }
     {

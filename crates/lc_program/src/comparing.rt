@@ -192,8 +192,8 @@ fn print_sides<O: Sink>(
     }
 }
 
-/// Returns what there is to say of the options of a comparison of these sides. Reports name their attributes themselves, so nothing is said
-/// of attributes if neither side is a directory.
+/// Returns the remarks about the options of a comparison of these sides. There are no remarks about attributes if neither side is a
+/// directory, since reports name their attributes themselves.
 fn remarks_of<'r>(
     sides: (Side, Side),
     emptied: &'r str,

@@ -36,7 +36,7 @@ fn unnamed_lines(alloc: Global, named: &NamedAttributes) -> Result<String, Alloc
     Ok(text)
 }
 
-/// What there is to say of the options of a walk.
+/// The remarks about the options of a walk.
 #[derive(Clone, Copy)]
 pub(crate) struct WalkRemarks<'r> {
     /// The line that says that the file of `--only-from` has no path, if nothing is counted for this reason. Otherwise the text is empty.
